@@ -1,0 +1,17 @@
+-- The step table and the step at a price. Assumes nothing.
+use mathlib.Core.Bool.{cond}
+use mathlib.Core.List.{List, [], _∷_}
+use Prim.Native.Nat.{ℕ}
+use lib.Dec.{leb}
+use Rattle.std.specs.Iters.{folded}
+use Rattle.prices.specs.declared.steps.StepRow.{StepRow}
+
+-- the step of the last row that starts at or below n; 0 where there is none
+abbrev pub step-at : List StepRow → ℕ → ℕ
+step-at rows n = folded (λ s row. cond (leb (row .start) n) (row .step) s) 0 rows
+
+-- the house's table
+abbrev pub house-steps : List StepRow
+house-steps =
+    record { start = 1; step = 1 } ∷ record { start = 500; step = 2 } ∷ record { start = 1000; step = 5 }
+    ∷ record { start = 5000; step = 25 } ∷ record { start = 50000; step = 50 } ∷ record { start = 100000; step = 100 } ∷ []
