@@ -18,8 +18,8 @@ pub enum OrderFault {
 pub impl From<RecordFault> for OrderFault as OrderFaultFromRecord {
     ghost converts = { λ fault r. r ≡ Record fault };
 
-    fn from(fault: RecordFault) -> OrderFault {
-        OrderFault::Record(fault)
+    fn from(found: RecordFault) -> OrderFault {
+        OrderFault::Record(found)
     }
 }
 

@@ -3,6 +3,8 @@ mod fault;
 mod instruction;
 mod order;
 mod reading;
+#[cfg(test)]
+mod tests;
 mod writing;
 
 pub use fault::OrderFault;

@@ -6,9 +6,13 @@ use lib.Dec.{leb}
 use Rattle.std.specs.Iters.{folded}
 use Rattle.prices.specs.declared.steps.StepRow.{StepRow}
 
+-- the row's step where the row starts at or below n, and else the step so far
+abbrev pub step-past : StepRow → ℕ → ℕ → ℕ
+step-past row n step = cond (leb (row .start) n) (row .step) step
+
 -- the step of the last row that starts at or below n; 0 where there is none
 abbrev pub step-at : List StepRow → ℕ → ℕ
-step-at rows n = folded (λ s row. cond (leb (row .start) n) (row .step) s) 0 rows
+step-at rows n = folded (λ step row. step-past row n step) 0 rows
 
 -- the house's table
 abbrev pub house-steps : List StepRow

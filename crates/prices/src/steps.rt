@@ -1,6 +1,6 @@
 // The step table: how far apart prices lie, by price.
 ghost use mathlib.Core.Path.{_≡_};
-ghost use Rattle.prices.specs.Steps.{step-at};
+ghost use Rattle.prices.specs.Steps.{step-at, step-past};
 
 // From `start` on, up to the next row's start, a price is a multiple of `step`.
 #[derive(Clone, Copy)]
@@ -33,15 +33,20 @@ pub const STEPS: [StepRow; 6] = [
     },
 ];
 
+// The row's step where the row starts at or below `units`, and else the step so far.
+fn step_past(row: StepRow, units: u32, step: u32) -> u32
+    ensures { λ r. ⌜ r ≡ step-past row units step ⌝ }
+{
+    if row.start <= units { row.step } else { step }
+}
+
 // The step of the last row that starts at or below `units`, or 0 where there is none.
 pub fn step_at(rows: &[StepRow], units: u32) -> u32
     ensures { λ r. ⌜ r ≡ step-at (now (rows .entry)) units ⌝ }
 {
     let mut step = 0;
     for row in rows {
-        if row.start <= units {
-            step = row.step;
-        }
+        step = step_past(*row, units, step);
     }
     step
 }

@@ -1,6 +1,6 @@
 -- An entry's 32 bytes one by one.
-use mathlib.Core.Path.{_≡_, refl, sym, ap, _∙_}
-use mathlib.Core.List.{List, [], _∷_, _++_}
+use mathlib.Core.Path.{_≡_, sym, ap}
+use mathlib.Core.List.{List, [], _∷_}
 use Prim.Native.Nat.{ℕ}
 use native.Mathlib.Omega.{arith}
 use lib.ListN.{length, getD}
@@ -8,9 +8,6 @@ use Rattle.records.specs.declared.record.EntryFields.{EntryFields}
 use Rattle.records.specs.Letters.{side-letter, type-letter, qualifier-letter, capacity-letter}
 use Rattle.records.specs.Bytes.{entry-bytes, number-bytes}
 use Rattle.records.proofs.RoundTrips.{listed, listed-is}
-
-four : (n : List ℕ) (k : ℕ) (rest : List ℕ) → n ≡ number-bytes k → getD n 0 0 ∷ getD n 1 0 ∷ getD n 2 0 ∷ getD n 3 0 ∷ rest ≡ number-bytes k ++ rest
-four n k rest e = ap (λ m. getD m 0 0 ∷ getD m 1 0 ∷ getD m 2 0 ∷ getD m 3 0 ∷ rest) e
 
 pub entry-laid : (f : EntryFields) (s t q c : ℕ) (p u m a : List ℕ) →
     s ≡ side-letter (f .side) → t ≡ type-letter (f .«order_type») → q ≡ qualifier-letter (f .qualifier) → c ≡ capacity-letter (f .capacity) →
@@ -22,6 +19,4 @@ pub entry-laid : (f : EntryFields) (s t q c : ℕ) (p u m a : List ℕ) →
     ≡ entry-bytes f a
 entry-laid f s t q c p u m a es et eq ec ep eu em len =
     let ea : listed 8 0 (λ i. getD a i 0) ≡ a = sym (listed-is 8 0 (λ i. getD a i 0) a len (λ k. ap (λ j. getD a j 0) (omega arith))) in
-    let em′ = four m (f .minimum) (c ∷ 0 ∷ 0 ∷ 0 ∷ listed 8 0 (λ i. getD a i 0)) em in
-    let eu′ = four u (f .quantity) (0 ∷ 0 ∷ 0 ∷ 0 ∷ getD m 0 0 ∷ getD m 1 0 ∷ getD m 2 0 ∷ getD m 3 0 ∷ c ∷ 0 ∷ 0 ∷ 0 ∷ listed 8 0 (λ i. getD a i 0)) eu in
     cc

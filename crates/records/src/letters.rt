@@ -28,7 +28,7 @@ pub enum Capacity {
 }
 
 impl Side {
-    pub fn letter(self) -> u8
+    pub(crate) fn letter(self) -> u8
         ensures { λ r. ⌜ r ≡ side-letter self ⌝ }
     {
         match self {
@@ -38,7 +38,7 @@ impl Side {
     }
 
     // The side that a listed letter spells.
-    pub fn of_letter(letter: u8) -> Side
+    pub(crate) fn of_letter(letter: u8) -> Side
         ensures { λ r. ⌜ r ≡ side-of letter ⌝ }
     {
         if letter == b'B' {
@@ -50,7 +50,7 @@ impl Side {
 }
 
 impl OrderType {
-    pub fn letter(self) -> u8
+    pub(crate) fn letter(self) -> u8
         ensures { λ r. ⌜ r ≡ type-letter self ⌝ }
     {
         match self {
@@ -60,7 +60,7 @@ impl OrderType {
     }
 
     // The type that a listed letter spells.
-    pub fn of_letter(letter: u8) -> OrderType
+    pub(crate) fn of_letter(letter: u8) -> OrderType
         ensures { λ r. ⌜ r ≡ type-of letter ⌝ }
     {
         if letter == b'L' {
@@ -72,7 +72,7 @@ impl OrderType {
 }
 
 impl Qualifier {
-    pub fn letter(self) -> u8
+    pub(crate) fn letter(self) -> u8
         ensures { λ r. ⌜ r ≡ qualifier-letter self ⌝ }
     {
         match self {
@@ -83,7 +83,7 @@ impl Qualifier {
     }
 
     // The qualifier that a listed letter spells.
-    pub fn of_letter(letter: u8) -> Qualifier
+    pub(crate) fn of_letter(letter: u8) -> Qualifier
         ensures { λ r. ⌜ r ≡ qualifier-of letter ⌝ }
     {
         match letter {
@@ -95,7 +95,7 @@ impl Qualifier {
 }
 
 impl Capacity {
-    pub fn letter(self) -> u8
+    pub(crate) fn letter(self) -> u8
         ensures { λ r. ⌜ r ≡ capacity-letter self ⌝ }
     {
         match self {
@@ -105,7 +105,7 @@ impl Capacity {
     }
 
     // The capacity that a listed letter spells.
-    pub fn of_letter(letter: u8) -> Capacity
+    pub(crate) fn of_letter(letter: u8) -> Capacity
         ensures { λ r. ⌜ r ≡ capacity-of letter ⌝ }
     {
         if letter == b'I' {

@@ -45,6 +45,19 @@ fn checked<'a>(
     }
 }
 
+// The account, which ends what follows the letters of an entry that begins at `at` in the input.
+fn account_from<'a>(body: &'a [u8], at: usize) -> Account<'a>
+    requires { ⌜ length (now body) ≡ 28 ⌝ ∗ ⌜ at + 32 < 2 ^ 64 ⌝ }
+    ensures bytes { λ r. ⌜ now (r .bytes) ≡ drop 20 (now (body .entry)) ⌝ }
+    ensures place { λ r. ⌜ r .place ≡ at + 24 ⌝ }
+{
+    let (_, bytes) = body.split_at(20);
+    Account {
+        bytes,
+        place: at + 24,
+    }
+}
+
 // The entry with these letters, and with the numbers, the capacity and the account that follow them.
 fn entry_from<'a>(side: u8, order_type: u8, qualifier: u8, body: &'a [u8], at: usize) -> Record<'a>
     requires { ⌜ length (now body) ≡ 28 ⌝ ∗ ⌜ at + 32 < 2 ^ 64 ⌝ }
@@ -59,11 +72,7 @@ fn entry_from<'a>(side: u8, order_type: u8, qualifier: u8, body: &'a [u8], at: u
         minimum: number_from(body, 12),
         capacity: Capacity::of_letter(body[16]),
     };
-    let account = Account {
-        bytes: &body[20..],
-        place: at + 24,
-    };
-    Record::Entry(fields, account)
+    Record::Entry(fields, account_from(body, at))
 }
 
 // What the 32 bytes say, which begin at `at` in the input.
