@@ -6,6 +6,6 @@ mod tests;
 
 pub use price::Price;
 pub use price::PriceDisplay;
-pub use steps::STEPS;
 pub use steps::StepRow;
+pub use steps::house_steps;
 pub use steps::step_at;

@@ -1,6 +1,6 @@
 // The step table: how far apart prices lie, by price.
 ghost use mathlib.Core.Path.{_≡_};
-ghost use Rattle.prices.specs.Steps.{step-at, step-past};
+ghost use Rattle.prices.specs.Steps.{house-steps, step-at, step-past};
 
 // From `start` on, up to the next row's start, a price is a multiple of `step`.
 #[derive(Clone, Copy)]
@@ -9,7 +9,7 @@ pub struct StepRow {
     pub step: u32,
 }
 
-pub const STEPS: [StepRow; 6] = [
+const STEPS: [StepRow; 6] = [
     StepRow { start: 1, step: 1 },
     StepRow {
         start: 500,
@@ -32,6 +32,13 @@ pub const STEPS: [StepRow; 6] = [
         step: 100,
     },
 ];
+
+// The house's table.
+pub fn house_steps() -> [StepRow; 6]
+    ensures { λ r. ⌜ r ≡ house-steps ⌝ }
+{
+    STEPS
+}
 
 // The row's step where the row starts at or below `units`, and else the step so far.
 fn step_past(row: StepRow, units: u32, step: u32) -> u32

@@ -1,6 +1,6 @@
 use crate::Price;
 use crate::PriceDisplay;
-use crate::STEPS;
+use crate::house_steps;
 use crate::step_at;
 use std::test::*;
 
@@ -66,7 +66,7 @@ fn steps_begin_at_their_rows() -> Result<(), Fail> {
         (99_999, 50),
         (100_000, 100),
     ] {
-        check_eq(step_at(&STEPS, units), step)?;
+        check_eq(step_at(&house_steps(), units), step)?;
     }
     Ok(())
 }

@@ -5,8 +5,8 @@ ghost use Rattle.std.specs.Options.{mapped};
 ghost use Rattle.std.specs.declared.option.Option.the-variants.{Some, None};
 ghost use Rattle.prices.specs.Rule.{lawful-by, lawful-price};
 use crate::price::Price;
-use crate::steps::STEPS;
 use crate::steps::StepRow;
+use crate::steps::house_steps;
 use crate::steps::step_at;
 
 fn is_lawful(rows: &[StepRow], units: u32) -> bool
@@ -21,7 +21,7 @@ impl Price {
     pub fn new(units: u32) -> Option<Price>
         ensures { λ r. ⌜ mapped (λ p. p .units) r ≡ cond (lawful-price units) (Some units) None ⌝ }
     {
-        if is_lawful(&STEPS, units) {
+        if is_lawful(&house_steps(), units) {
             Some(Price { units })
         } else {
             None

@@ -1,0 +1,4 @@
+pub mod Ranking
+pub mod Run
+pub mod Items
+pub mod Theorems
