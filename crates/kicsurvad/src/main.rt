@@ -1,4 +1,6 @@
 // The program: reads an order file from standard input, and prints what the library says of it.
+#![tactic(auto)]
+
 use anyhow::anyhow;
 use listing::check_listing;
 use std::env;

@@ -1,4 +1,6 @@
 // Orders that rest in a book, of two kinds, and the levels of an auction sheet.
+#![tactic(auto)]
+
 mod capacity;
 mod level;
 mod line;

@@ -1,4 +1,6 @@
 // What is printed of an order file: a line for each record, and a last line with the counts.
+#![tactic(auto)]
+
 mod lines;
 mod words;
 

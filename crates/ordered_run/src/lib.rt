@@ -1,4 +1,6 @@
 // Ranked things in a lent stretch of memory, each before the next, and no two of one key.
+#![tactic(auto)]
+
 mod ranked;
 mod run;
 mod slots;

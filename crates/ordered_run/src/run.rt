@@ -38,15 +38,15 @@ impl<'a, T: Ranked> OrderedRun<'a, T> {
 
     // Where the first item with the key stands.
     pub fn find(&self, sought: u32) -> Option<usize>
-        ensures { result ≡ place key sought (items self.now) }
+        ensures { result ≡ place T.key sought (items self.now) }
     {
         find_in(&*self.slots, self.used, sought)
     }
 
     // Puts `x` before the first item that does not precede it. Refuses, and changes nothing, where each slot is used or an item has its key.
     pub fn put(&mut self, x: T) -> bool
-        ensures answer { result ≡ takes key (length (memory self.old)) x (items self.old) }
-        ensures after { items self.new ≡ put_in key precedes (length (memory self.old)) x (items self.old) }
+        ensures answer { result ≡ takes T.key (length (memory self.old)) x (items self.old) }
+        ensures after { items self.new ≡ put_in T.key T.precedes (length (memory self.old)) x (items self.old) }
         ensures past { memory self.new ≡ (if result then laid (items self.new) (memory self.old) else memory self.old) }
         ensures room { length (memory self.new) ≡ length (memory self.old) }
         ensures lent { self.new.slots.ghost_name ≡ self.old.slots.ghost_name }
@@ -59,8 +59,8 @@ impl<'a, T: Ranked> OrderedRun<'a, T> {
 
     // Takes the first item with the key out; the later ones move down by one.
     pub fn take_out(&mut self, sought: u32) -> Option<T>
-        ensures answer { result ≡ first key sought (items self.old) }
-        ensures after { items self.new ≡ without key sought (items self.old) }
+        ensures answer { result ≡ first T.key sought (items self.old) }
+        ensures after { items self.new ≡ without T.key sought (items self.old) }
         ensures past { memory self.new ≡ (if is_some result then laid (items self.new) (memory self.old) else memory self.old) }
         ensures room { length (memory self.new) ≡ length (memory self.old) }
         ensures lent { self.new.slots.ghost_name ≡ self.old.slots.ghost_name }
@@ -73,8 +73,8 @@ impl<'a, T: Ranked> OrderedRun<'a, T> {
 
     // Does one step, and says whether it changed the run.
     pub fn step(&mut self, s: Step<T>) -> bool
-        ensures answer { result ≡ acts key (length (memory self.old)) s (items self.old) }
-        ensures after { items self.new ≡ stepped key precedes (length (memory self.old)) s (items self.old) }
+        ensures answer { result ≡ acts T.key (length (memory self.old)) s (items self.old) }
+        ensures after { items self.new ≡ stepped T.key T.precedes (length (memory self.old)) s (items self.old) }
         ensures room { length (memory self.new) ≡ length (memory self.old) }
         ensures lent { self.new.slots.ghost_name ≡ self.old.slots.ghost_name }
     {
@@ -96,8 +96,8 @@ impl<'a, T: Ranked> OrderedRun<'a, T> {
 
 // A new run after the steps, which is ordered and has distinct keys whatever they are.
 pub fn reach<'a, T: Ranked>(slots: &'a mut [T], steps: &[Step<T>]) -> OrderedRun<'a, T>
-    ensures after { items result ≡ reached key precedes (length slots.old) steps.now [] }
-    ensures sound { Sound key precedes (items result) }
+    ensures after { items result ≡ reached T.key T.precedes (length slots.old) steps.now [] }
+    ensures sound { Sound T.key T.precedes (items result) }
 {
     let mut run = OrderedRun::new(slots);
     for s in steps {
@@ -108,14 +108,14 @@ pub fn reach<'a, T: Ranked>(slots: &'a mut [T], steps: &[Step<T>]) -> OrderedRun
 
 // Putting one in and taking one out each keep a run ordered and its keys distinct.
 pub fn steps_keep_order<T: Ranked>() -> u8
-    ensures { StepsKeepOrder {X = T} key precedes }
+    ensures { StepsKeepOrder {X = T} T.key T.precedes }
 {
     0
 }
 
 // Whatever is put in and taken out of an empty run, it is ordered and its keys are distinct.
 pub fn reached_stays_ordered<T: Ranked>() -> u8
-    ensures { ReachedStaysOrdered {X = T} key precedes }
+    ensures { ReachedStaysOrdered {X = T} T.key T.precedes }
 {
     0
 }

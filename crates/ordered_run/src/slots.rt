@@ -7,7 +7,7 @@ use crate::ranked::Ranked;
 
 // Where the first item with the key stands.
 pub fn place_of<T: Ranked>(items: &[T], sought: u32) -> Option<usize>
-    ensures is { result ≡ place key sought items.now }
+    ensures is { result ≡ place T.key sought items.now }
     ensures within { IfSome result (λ i. i < length items.now) }
 {
     for (i, x) in items.iter().enumerate() {
@@ -20,7 +20,7 @@ pub fn place_of<T: Ranked>(items: &[T], sought: u32) -> Option<usize>
 
 // Where the first item stands that does not precede `x`, or how many there are.
 pub fn spot_of<T: Ranked>(items: &[T], x: &T) -> usize
-    ensures is { result ≡ spot precedes x.now items.now }
+    ensures is { result ≡ spot T.precedes x.now items.now }
     ensures within { result ≤ length items.now }
 {
     for (i, y) in items.iter().enumerate() {
@@ -67,7 +67,7 @@ pub fn held<T>(slots: &[T], used: usize) -> usize
 
 // Where the first item with the key stands.
 pub fn find_in<T: Ranked>(slots: &[T], used: usize, sought: u32) -> Option<usize>
-    ensures { result ≡ place key sought (take used slots.now) }
+    ensures { result ≡ place T.key sought (take used slots.now) }
 {
     let n = held(slots, used);
     place_of(&slots[0..n], sought)
@@ -75,8 +75,8 @@ pub fn find_in<T: Ranked>(slots: &[T], used: usize, sought: u32) -> Option<usize
 
 // Puts `x` among the first `used` slots, before the first item that does not precede it. Refuses where each slot is used, or an item has its key.
 pub fn put_in<T: Ranked>(slots: &mut [T], used: &mut usize, x: T) -> bool
-    ensures answer { result ≡ takes key (length slots.old) x (take used.old slots.old) }
-    ensures items { take used.new slots.new ≡ put_in key precedes (length slots.old) x (take used.old slots.old) }
+    ensures answer { result ≡ takes T.key (length slots.old) x (take used.old slots.old) }
+    ensures items { take used.new slots.new ≡ put_in T.key T.precedes (length slots.old) x (take used.old slots.old) }
     ensures memory { slots.new ≡ (if result then laid (take used.new slots.new) slots.old else slots.old) }
 {
     let n = *used;
@@ -95,8 +95,8 @@ pub fn put_in<T: Ranked>(slots: &mut [T], used: &mut usize, x: T) -> bool
 
 // Takes the first item with the key out of the first `used` slots; the later ones move down.
 pub fn take_from<T: Ranked>(slots: &mut [T], used: &mut usize, sought: u32) -> Option<T>
-    ensures answer { result ≡ first key sought (take used.old slots.old) }
-    ensures items { take used.new slots.new ≡ without key sought (take used.old slots.old) }
+    ensures answer { result ≡ first T.key sought (take used.old slots.old) }
+    ensures items { take used.new slots.new ≡ without T.key sought (take used.old slots.old) }
     ensures memory { slots.new ≡ (if is_some result then laid (take used.new slots.new) slots.old else slots.old) }
 {
     let n = held(slots, *used);

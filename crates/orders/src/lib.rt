@@ -1,4 +1,6 @@
 // Orders that keep the order rules, and records checked against those rules.
+#![tactic(auto)]
+
 mod fault;
 mod instruction;
 mod order;

@@ -1,4 +1,6 @@
 // The 32-byte records of an order file: what each byte may be, what a record says, and how one is written.
+#![tactic(auto)]
+
 mod fault;
 mod layout;
 mod letters;

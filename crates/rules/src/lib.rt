@@ -1,4 +1,6 @@
 // The rules of the book, as definitions, and what is proved of them.
+#![tactic(auto)]
+
 ghost use Rattle.rules.specs.Fair.{BooksStaySound, EveryEventIsLawful, LimitsAreKept};
 ghost use Rattle.rules.specs.History.{EveryShareIsAccountedFor};
 ghost use Rattle.rules.specs.Opening.{ChoiceIsSettled};

@@ -10,7 +10,7 @@ returns-then-not-is-before g c = record {
 
 pub loop-i-preserved : goal.loop-i-preserved
 loop-i-preserved g c =
-    c.loop-i.invariant ∙ spot_more g.T.Ranked.precedes c.args.x.now c.args.items.now c.loop-i.i _ c.loop-i-test.true c.index-items-i.is (sym c.is-before.ensures ∙ c.if-not-is-before.false)
+    c.loop-i.invariant ∙ spot_more g.T.Ranked.precedes c.args.x.now c.args.items.now c.loop-i.i _ c.loop-i-test.true c.index-items-i.is (sym c.is_before.ensures ∙ c.if-not-is_before.false)
 
 pub returns : goal.returns
 returns g c =

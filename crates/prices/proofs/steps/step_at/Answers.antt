@@ -6,7 +6,7 @@ use Rattle.prices.proofs.steps.step_at.Goals as goal
 
 pub loop-row-preserved : goal.loop-row-preserved
 loop-row-preserved c =
-    c.step-past-step.ensures
+    c.step_past-step.ensures
     ∙ (ap (step_past _ c.args.units) c.loop-row.invariant
     ∙ sym (fold_more (λ step row. step_past row c.args.units step) 0 c.args.rows.now c.loop-row.row-index _ c.loop-row-test.true))
 

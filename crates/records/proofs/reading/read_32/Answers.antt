@@ -14,20 +14,20 @@ returns-in-default c = absurd (search rules)
 pub returns-in-68 : goal.returns-in-68
 returns-in-68 c =
     c.checked.ensures
-    ∙ (ap (λ n. unless (option_map Byte (misfit one_number_layout c.args.bytes.now)) (start n)) c.number-from.ensures
+    ∙ (ap (λ n. unless (option_map Byte (misfit one_number_layout c.args.bytes.now)) (start n)) c.number_from.ensures
     ∙ sym (by_letter 68 c.args.bytes.now c.args.at c.in-68.is))
 
 pub returns-in-69 : goal.returns-in-69
 returns-in-69 c =
     c.checked-in-69.ensures
-    ∙ (ap (unless (option_map Byte (misfit entry_layout c.args.bytes.now))) (c.entry-from.ensures
+    ∙ (ap (unless (option_map Byte (misfit entry_layout c.args.bytes.now))) (c.entry_from.ensures
     ∙ ap (λ body. entry_after (get_or c.args.bytes.now 1 0) (get_or c.args.bytes.now 2 0) (get_or c.args.bytes.now 3 0) body c.args.at) (take_rest c.args.bytes.now 4))
     ∙ sym (by_letter 69 c.args.bytes.now c.args.at c.in-69.is))
 
 pub returns-in-87 : goal.returns-in-87
 returns-in-87 c =
     c.checked-in-87.ensures
-    ∙ (ap (λ n. unless (option_map Byte (misfit one_number_layout c.args.bytes.now)) (withdrawal n)) c.number-from-in-87.ensures
+    ∙ (ap (λ n. unless (option_map Byte (misfit one_number_layout c.args.bytes.now)) (withdrawal n)) c.number_from-in-87.ensures
     ∙ sym (by_letter 87 c.args.bytes.now c.args.at c.in-87.is))
 
 pub returns-in-79 : goal.returns-in-79

@@ -40,7 +40,7 @@ pub returns : goal.returns
 returns c =
     let e = take_rest c.args.input.now c.args.at in
     let long : 32 ≤ length (drop c.args.at c.args.input.now) = omega (arith, ap length e, c.if-rest-lt32.false) in
-    let read = c.in-ok-read-32.ensures ∙ ap (λ b. read_32 (take 32 b) c.args.at) e in
+    let read = c.in_ok-read_32.ensures ∙ ap (λ b. read_32 (take 32 b) c.args.at) e in
     record {
       is = ap (on_ok Some) read ∙ sym (read_at_whole c.args.input.now c.args.at long);
       written = written_again (take 32 (drop c.args.at c.args.input.now)) c.args.at _ (length_record c.args.input.now c.args.at long)

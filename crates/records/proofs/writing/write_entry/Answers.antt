@@ -7,7 +7,7 @@ use Rattle.records.proofs.writing.write_entry.Goals as goal
 
 pub returns : goal.returns
 returns c = record {
-  answer = ap (λ o. unless (option_map (λ place. Byte (24 + place)) o) tt) c.in-default.ensures;
-  after = c.entry-in-bytes.ensures;
-  read = entry_written c.args.fields c.args.account.now c.entry-in-bytes.result c.entry-in-bytes.ensures (search rules) (search rules) (search rules) (search rules) (sym c.in-default.ensures);
+  answer = ap (λ o. unless (option_map (λ place. Byte (24 + place)) o) tt) c.in_default.ensures;
+  after = c.entry_in_bytes.ensures;
+  read = entry_written c.args.fields c.args.account.now c.entry_in_bytes.result c.entry_in_bytes.ensures (search rules) (search rules) (search rules) (search rules) (sym c.in_default.ensures);
 }

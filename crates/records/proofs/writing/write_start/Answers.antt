@@ -4,6 +4,6 @@ use Rattle.records.proofs.writing.write_start.Goals as goal
 
 pub returns : goal.returns
 returns c = record {
-  after = c.write-number.ensures;
-  read = start_written c.args.reference c.write-number.new.out c.write-number.ensures (omega arith);
+  after = c.write_number.ensures;
+  read = start_written c.args.reference c.write_number.new.out c.write_number.ensures (omega arith);
 }
