@@ -2,9 +2,9 @@ use Rattle.std.proofs.Common.{sym, ◌∙◌, arith}
 use Rattle.ordered_run.proofs.Places.{spot_here, spot_more, spot_all}
 use Rattle.ordered_run.proofs.slots.spot_of.Goals as goal
 
-pub returns-then-not-is-before : goal.returns-then-not-is-before
-returns-then-not-is-before g c = record {
-  is = sym (c.loop-i.invariant ∙ spot_here g.T.Ranked.precedes c.args.x.now c.args.items.now c.loop-i.i _ c.loop-i-test.true c.index-items-i.is (sym c.is-before.ensures ∙ c.if-not-is-before.true));
+pub returns-then-not-is_before : goal.returns-then-not-is_before
+returns-then-not-is_before g c = record {
+  is = sym (c.loop-i.invariant ∙ spot_here g.T.Ranked.precedes c.args.x.now c.args.items.now c.loop-i.i _ c.loop-i-test.true c.index-items-i.is (sym c.is_before.ensures ∙ c.if-not-is_before.true));
   within = omega arith;
 }
 

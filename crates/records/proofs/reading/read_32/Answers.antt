@@ -8,8 +8,8 @@ use Rattle.std.specs.Option.{option_map}
 use Rattle.records.specs.declared.fault.RecordFault.TheVariants.{Byte}
 use Rattle.records.proofs.reading.read_32.Goals as goal
 
-pub returns-in-default : goal.returns-in-default
-returns-in-default c = absurd (search rules)
+pub returns-in_default : goal.returns-in_default
+returns-in_default c = absurd (search rules)
 
 pub returns-in-68 : goal.returns-in-68
 returns-in-68 c =
@@ -42,7 +42,7 @@ returns-in-82 c = c.checked-in-82.ensures ∙ sym (by_letter 82 c.args.bytes.now
 pub returns-in-67 : goal.returns-in-67
 returns-in-67 c = c.checked-in-67.ensures ∙ sym (by_letter 67 c.args.bytes.now c.args.at c.in-67.is)
 
-pub returns-in-default-kind : goal.returns-in-default-kind
-returns-in-default-kind c =
+pub returns-in_default-kind : goal.returns-in_default-kind
+returns-in_default-kind c =
     let h : Unlisted (get_or c.args.bytes.now 0 0) kinds = search rules in
     sym (unlisted c.args.bytes.now c.args.at h)

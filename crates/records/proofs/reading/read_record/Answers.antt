@@ -24,12 +24,12 @@ returns-then-rest-lt32 c =
       account = tt;
     }
 
-pub returns-in-err-read-32 : goal.returns-in-err-read-32
-returns-in-err-read-32 c =
-    let p = err_from_is_err_and c.from-residual.result c.from-residual.ensures.1 in
+pub returns-in_err-read_32 : goal.returns-in_err-read_32
+returns-in_err-read_32 c =
+    let p = err_from_is_err_and c.from_residual.result c.from_residual.ensures.1 in
     let e = take_rest c.args.input.now c.args.at in
     let long : 32 ≤ length (drop c.args.at c.args.input.now) = omega (arith, ap length e, c.if-rest-lt32.false) in
-    let read = c.in-err-read-32.ensures ∙ ap (λ b. read_32 (take 32 b) c.args.at) e in
+    let read = c.in_err-read_32.ensures ∙ ap (λ b. read_32 (take 32 b) c.args.at) e in
     rw (p.1, p.2) (record {
       is = ap (on_ok Some) read ∙ sym (read_at_whole c.args.input.now c.args.at long);
       written = tt;
@@ -44,6 +44,6 @@ returns c =
     record {
       is = ap (on_ok Some) read ∙ sym (read_at_whole c.args.input.now c.args.at long);
       written = written_again (take 32 (drop c.args.at c.args.input.now)) c.args.at _ (length_record c.args.input.now c.args.at long)
-          (bytes_part c.args.input.now c.args.at 32 (λ i. omega (arith, c.type-inv.input i))) (sym read);
+          (bytes_part c.args.input.now c.args.at 32 (λ i. omega (arith, c.type_inv.input i))) (sym read);
       account = account_lies c.args.input.now c.args.at _ (sym read);
     }
