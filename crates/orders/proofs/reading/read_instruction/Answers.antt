@@ -12,31 +12,31 @@ use Rattle.orders.proofs.reading.read_instruction.Goals as goal
 abbrev read_as : Option Record → Result (Option Reading) RecordFault
 read_as found = Ok (option_map reading_of found)
 
-pub returns-in-err-found : goal.returns-in-err-found
-returns-in-err-found c =
-    let p = err_from_is_err_and c.from-residual.result c.from-residual.ensures.1 in
-    let e = c.in-err-found.ensures.is in
+pub returns-in_err-found : goal.returns-in_err-found
+returns-in_err-found c =
+    let p = err_from_is_err_and c.from_residual.result c.from_residual.ensures.1 in
+    let e = c.in_err-found.ensures.is in
     rw (p.1, p.2) (record { is = sym (check_at_is c.args.input.now c.args.at _ e); written = tt; account = tt })
 
-pub returns-in-default : goal.returns-in-default
-returns-in-default c =
-    let e = sym (ap read_as c.in-default.is) ∙ c.in-ok-found.ensures.is in
+pub returns-in_default : goal.returns-in_default
+returns-in_default c =
+    let e = sym (ap read_as c.in_default.is) ∙ c.in_ok-found.ensures.is in
     record { is = sym (check_at_is c.args.input.now c.args.at (Ok None) e); written = tt; account = tt }
 
-pub returns-in-err-checked : goal.returns-in-err-checked
-returns-in-err-checked c =
-    let p = err_from_is_err_and c.from-residual-in-err-checked.result c.from-residual-in-err-checked.ensures.1 in
-    let e = sym (ap read_as c.in-Some.is) ∙ c.in-ok-found.ensures.is in
-    let lies = subst (λ o. Accepted (read_as o) (AccountIn c.args.input.now)) c.in-Some.is c.in-ok-found.ensures.account in
-    let f = c.in-err-checked.ensures c.args.input.now lies in
-    rw (p.1, p.2) (record { is = check_some c.args.input.now c.args.at (reading_of c.in-Some.found) (Err c.in-err-checked.field-0.0) e f; written = tt; account = tt })
+pub returns-in_err-checked : goal.returns-in_err-checked
+returns-in_err-checked c =
+    let p = err_from_is_err_and c.from_residual-in_err-checked.result c.from_residual-in_err-checked.ensures.1 in
+    let e = sym (ap read_as c.in-Some.is) ∙ c.in_ok-found.ensures.is in
+    let lies = subst (λ o. Accepted (read_as o) (AccountIn c.args.input.now)) c.in-Some.is c.in_ok-found.ensures.account in
+    let f = c.in_err-checked.ensures c.args.input.now lies in
+    rw (p.1, p.2) (record { is = check_some c.args.input.now c.args.at (reading_of c.in-Some.found) (Err c.in_err-checked.field-0.0) e f; written = tt; account = tt })
 
 pub returns : goal.returns
 returns c =
-    let e = sym (ap read_as c.in-Some.is) ∙ c.in-ok-found.ensures.is in
-    let lies = subst (λ o. Accepted (read_as o) (AccountIn c.args.input.now)) c.in-Some.is c.in-ok-found.ensures.account in
-    let again = subst (λ o. Accepted (read_as o) (λ m. bytes_of m ≡ take 32 (drop c.args.at c.args.input.now))) c.in-Some.is c.in-ok-found.ensures.written in
-    let f = c.in-ok-checked.ensures c.args.input.now lies in
+    let e = sym (ap read_as c.in-Some.is) ∙ c.in_ok-found.ensures.is in
+    let lies = subst (λ o. Accepted (read_as o) (AccountIn c.args.input.now)) c.in-Some.is c.in_ok-found.ensures.account in
+    let again = subst (λ o. Accepted (read_as o) (λ m. bytes_of m ≡ take 32 (drop c.args.at c.args.input.now))) c.in-Some.is c.in_ok-found.ensures.written in
+    let f = c.in_ok-checked.ensures c.args.input.now lies in
     let same = same_reading (fault_in (reading_of c.in-Some.found)) (reading_of c.in-Some.found) _ f in
     record {
       is = check_some c.args.input.now c.args.at (reading_of c.in-Some.found) _ e f;
