@@ -23,7 +23,7 @@ pub fn choice_is_settled() -> u8
 // Of resting orders of any kind, the opening price moves the most shares of every number, passes the five tests
 // where a share trades, is the only one that does, and is the reference where none trades.
 pub fn openings_are_settled<L: Line>() -> u8
-    ensures { OpeningsAreSettled kind }
+    ensures { OpeningsAreSettled L.kind }
 {
     0
 }
@@ -33,7 +33,7 @@ pub fn openings_are_settled<L: Line>() -> u8
 // front of those that it does not; and while it is running or halted every resting buyer's price is below every
 // resting seller's.
 pub fn books_stay_sound<L: Line>() -> u8
-    ensures { BooksStaySound kind }
+    ensures { BooksStaySound L.kind }
 {
     0
 }
@@ -41,7 +41,7 @@ pub fn books_stay_sound<L: Line>() -> u8
 // Over every list of commands to several books, for each order number: what was entered is what stands on the book's
 // tapes, was withdrawn, lapsed and still rests.
 pub fn every_share_is_accounted_for<L: Line>() -> u8
-    ensures { EveryShareIsAccountedFor kind }
+    ensures { EveryShareIsAccountedFor L.kind }
 {
     0
 }
@@ -49,7 +49,7 @@ pub fn every_share_is_accounted_for<L: Line>() -> u8
 // Over every list of commands to several books: what is asked is refused by the first condition of the table that
 // holds, and then nothing changes; else it is answered and done as the rules say, trade by trade.
 pub fn every_event_is_lawful<L: Line>() -> u8
-    ensures { EveryEventIsLawful kind }
+    ensures { EveryEventIsLawful L.kind }
 {
     0
 }
@@ -57,7 +57,7 @@ pub fn every_event_is_lawful<L: Line>() -> u8
 // Over every list of commands to several books: no trade is above its buyer's limit or below its seller's, by order
 // number, when the order is entered or later; of a market order later, the price at which its rest came to rest.
 pub fn limits_are_kept<L: Line>() -> u8
-    ensures { LimitsAreKept kind }
+    ensures { LimitsAreKept L.kind }
 {
     0
 }

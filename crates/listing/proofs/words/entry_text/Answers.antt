@@ -11,10 +11,10 @@ pub returns : goal.returns
 returns c =
     IfOk-weaker c.joined.result _ _
     (λ s e ascii. e ∙ entry_text_from (fields_of c.args.order) c.args.account.now _ _ _ _ _ _
-    (c.side-word-side.ensures ∙ ap side_word c.side.ensures)
+    (c.side_word-side.ensures ∙ ap side_word c.side.ensures)
     c.quantity-quantity.ensures
-    (c.as-str.ensures.value ∙ (c.in-ok-price.ensures ∙ ap (λ limit. price_or_market (type_by limit) (units_or_zero limit)) c.limit.ensures))
-    (c.as-str-2.ensures.value ∙ (c.in-ok-marks.ensures ∙ (ap (λ q. marks_text q c.minimum.result) c.qualifier.ensures ∙ ap (marks_text c.args.order.qualifier) c.minimum.ensures)))
-    (c.capacity-word-capacity.ensures ∙ ap capacity_word c.capacity.ensures)
-    (c.as-str-3.ensures.value ∙ c.in-ok-account.ensures.ok (IsUtf8-from_ascii _ ascii)))
+    (c.as_str.ensures.value ∙ (c.in_ok-price.ensures ∙ ap (λ limit. price_or_market (type_by limit) (units_or_zero limit)) c.limit.ensures))
+    (c.as_str-2.ensures.value ∙ (c.in_ok-marks.ensures ∙ (ap (λ q. marks_text q c.minimum.result) c.qualifier.ensures ∙ ap (marks_text c.args.order.qualifier) c.minimum.ensures)))
+    (c.capacity_word-capacity.ensures ∙ ap capacity_word c.capacity.ensures)
+    (c.as_str-3.ensures.value ∙ c.in_ok-account.ensures.ok (IsUtf8-from_ascii _ ascii)))
     c.joined.ensures
