@@ -1,10 +1,10 @@
 // The program: reads an order file from standard input, and prints what the library says of it.
 #![tactic(auto)]
 
-use anyhow::anyhow;
 use listing::check_listing;
 use std::env;
 use std::io::{Read, Write};
+use std::process::ExitCode;
 
 const USAGE: &str =
     "usage: kicsurvad check < FILE\n  check  for each record of the order file, print what it says or why it is refused\n";
@@ -34,14 +34,22 @@ fn asks_to_check(rt: &HostRuntime) -> anyhow::Result<bool> {
     }
 }
 
-fn main(rt: HostRuntime) -> anyhow::Result<()> {
-    if !asks_to_check(&rt)? {
+// Does what the argument asks for, and says how the program ends.
+fn run(rt: &HostRuntime) -> anyhow::Result<ExitCode> {
+    if !asks_to_check(rt)? {
         rt.stderr().write_all(USAGE.as_bytes())?;
-        return Err(anyhow!("no known argument"));
+        return Ok(ExitCode::FAILURE);
     }
-    let result = check(&rt);
-    if let Err(error) = &result {
-        eprintln!(rt; "kicsurvad: {error}")?;
+    check(rt)?;
+    Ok(ExitCode::SUCCESS)
+}
+
+fn main(rt: HostRuntime) -> ExitCode {
+    match run(&rt) {
+        Ok(code) => code,
+        Err(error) => {
+            let _ = eprintln!(rt; "kicsurvad: {error}");
+            ExitCode::FAILURE
+        }
     }
-    result
 }

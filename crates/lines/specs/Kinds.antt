@@ -1,5 +1,5 @@
 -- The two kinds of line. Assumes nothing.
-use Rattle.std.specs.Prelude.{ℕ, ◌-◌, nat_lt}
+use Rattle.std.specs.Prelude.{◌-◌, nat_lt}
 use Rattle.lines.specs.declared.time.TimeLine.{TimeLine}
 use Rattle.lines.specs.declared.capacity.CapacityLine.{CapacityLine}
 use Rattle.lines.specs.Kind.{Kind}

@@ -1,7 +1,7 @@
 -- Rank by side and price is a ranking where the tie is one, whatever the kind. Assumes nothing.
-use Rattle.std.specs.Prelude.{◌≡◌, ℕ, ◌<◌, ◌≤◌, Bool, true, false, not, ◌&&◌, ◌||◌, ltb, ◌==◌, ◌≢◌, nat_lt, refl}
+use Rattle.std.specs.Prelude.{◌≡◌, ℕ, ◌<◌, Bool, true, false, not, ◌&&◌, ◌||◌, ltb, ◌==◌, ◌≢◌, nat_lt, refl}
 use Rattle.std.proofs.Common.{sym, ap, ◌∙◌, ⊎_elim, arith}
-use Rattle.std.proofs.lemmas.Bool.{cases_Bool, cases_order, eq-eqb, eqb-true, le-ltb, lt-ltb, ltb-true, ltb-false, ne_eqb, or_cases, or_left, or_right, or_from, and_parts, and_from, and_left, and_right, true≢false}
+use Rattle.std.proofs.lemmas.Bool.{cases_order, eq-eqb, eqb-true, le-ltb, lt-ltb, ltb-true, ne_eqb, or_cases, or_left, or_right, or_from, and_parts, and_from, and_left, and_right, true≢false}
 use Rattle.ordered_run.specs.Ranking.{Ranking}
 use Rattle.records.specs.declared.letters.Side.{Side}
 use Rattle.records.specs.declared.letters.Side.TheVariants.{Buy, Sell}

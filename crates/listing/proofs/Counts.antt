@@ -1,5 +1,5 @@
 -- The listing, one record on.
-use Rattle.std.proofs.Common.{◌≡◌, ℕ, zero, suc, ◌+◌, ◌*◌, ◌<◌, ◌≤◌, min, leb, List, [], ◌∷◌, ◌++◌, length, get_or, take, drop, replicate, Some, None, Ok, Err, IsAscii, Option, Result, sym, refl, ap, ◌∙◌, add-one, arith}
+use Rattle.std.proofs.Common.{◌≡◌, ℕ, zero, suc, ◌+◌, ◌≤◌, List, [], ◌∷◌, ◌++◌, length, drop, replicate, Some, None, Ok, Err, IsAscii, Option, Result, refl, ap, add-one, arith}
 use Rattle.std.specs.Option.{option_map}
 use Rattle.std.proofs.lemmas.List.{length-take}
 use Rattle.std.proofs.lemmas.Bool.{and_parts, leb-true}
@@ -9,7 +9,7 @@ use Rattle.records.specs.declared.layout.ByteRule.TheVariants.{Printable}
 use Rattle.records.specs.Layout.{misfit, account_layout}
 use Rattle.records.specs.Refusals.{unless}
 use Rattle.records.proofs.Misfits.{Fit, fit_from_none}
-use Rattle.records.specs.Reading.{Accepted, AccountIn, Reading, start, entry, withdrawal, opening, halt, resumption, closing, account_fault}
+use Rattle.records.specs.Reading.{Accepted, AccountIn, Reading, start, entry, withdrawal, opening, halt, resumption, closing}
 use Rattle.orders.specs.declared.fault.OrderFault.{OrderFault}
 use Rattle.listing.specs.Lines.{accepted, accepted_in, answer_at, line_of, lines, refused, refused_in}
 use Rattle.listing.specs.Words.{AsciiAccount}

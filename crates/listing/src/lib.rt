@@ -5,4 +5,3 @@ mod lines;
 mod words;
 
 pub use lines::check_listing;
-pub use words::{marks_text, price_or_market, side_word};

@@ -10,7 +10,7 @@ use prices::Price;
 use records::{Capacity, Qualifier, Side};
 use std::alloc::{AllocError, Global};
 
-pub fn side_word(side: Side) -> &'static str
+fn side_word(side: Side) -> &'static str
     ensures { result.now ≡ side_word side }
 {
     match side {
@@ -39,7 +39,7 @@ fn qualifier_part(qualifier: Qualifier) -> &'static str
 }
 
 // What follows the price: the qualifier, and the minimum where there is one.
-pub fn marks_text(heap: Global, qualifier: Qualifier, minimum: u32) -> Result<String, AllocError>
+fn marks_text(heap: Global, qualifier: Qualifier, minimum: u32) -> Result<String, AllocError>
     ensures { IfOk result (λ s. string_bytes s ≡ marks_text qualifier minimum) }
 {
     let qualifier = qualifier_part(qualifier);
@@ -49,7 +49,7 @@ pub fn marks_text(heap: Global, qualifier: Qualifier, minimum: u32) -> Result<St
     format!(in heap; "{qualifier}, minimum {minimum}")
 }
 
-pub fn price_or_market(heap: Global, limit: Option<Price>) -> Result<String, AllocError>
+fn price_or_market(heap: Global, limit: Option<Price>) -> Result<String, AllocError>
     ensures { IfOk result (λ s. string_bytes s ≡ price_or_market (type_by limit) (units_or_zero limit)) }
 {
     match limit {

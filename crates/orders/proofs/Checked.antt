@@ -1,13 +1,11 @@
 -- What is checked, by what is read.
-use Rattle.std.proofs.Common.{◌≡◌, ℕ, true, false, not, List, Some, None, Ok, Err, Option, Result, sym, refl, ap, ◌∙◌, arith}
+use Rattle.std.proofs.Common.{◌≡◌, ℕ, true, List, Some, None, Ok, Option, Result, sym, refl, ap, ◌∙◌, arith}
 use Rattle.std.proofs.lemmas.Bool.{cond-false, not_from_true}
 use Rattle.prices.specs.declared.price.Price.{Price}
-use Rattle.prices.specs.Rule.{lawful_price}
 use Rattle.records.specs.declared.fault.RecordFault.{RecordFault}
 use Rattle.records.specs.Refusals.{unless, on_ok}
 use Rattle.records.specs.Reading.{Reading, start, entry, read_at}
 use Rattle.orders.specs.declared.fault.OrderFault.{OrderFault}
-use Rattle.orders.specs.declared.fault.OrderFault.TheVariants.{Record}
 use Rattle.orders.specs.declared.order.Order.{Order}
 use Rattle.orders.specs.Rules.{price_rule, type_by}
 use Rattle.orders.specs.Checks.{check_at, checked, fault_in, order_fault}

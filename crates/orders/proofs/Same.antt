@@ -1,11 +1,9 @@
 -- An order is its fields.
-use Rattle.std.proofs.Common.{◌≡◌, ℕ, true, List, Some, None, Ok, Err, Option, Result, sym, refl, ap, ◌∙◌, arith}
+use Rattle.std.proofs.Common.{◌≡◌, ℕ, true, List, Some, None, Ok, Option, Result, sym, refl, ap, ◌∙◌, arith}
 use mathlib.Core.Bool.{Bool-set}
 use mathlib.Core.HLevel.{is_prop→PathP}
 use Rattle.prices.specs.declared.price.Price.{Price}
 use Rattle.prices.proofs.Same.{same_price}
-use Rattle.records.specs.declared.letters.OrderType.{OrderType}
-use Rattle.records.specs.declared.letters.OrderType.TheVariants.{Limit, Market}
 use Rattle.records.specs.declared.record.EntryFields.{EntryFields}
 use Rattle.records.specs.Reading.{Reading, entry}
 use Rattle.orders.specs.declared.fault.OrderFault.{OrderFault}

@@ -3,7 +3,7 @@ use Rattle.std.specs.Prelude.{ℕ, Bool, not, List, [], ◌∷◌, Some, None, O
 use Rattle.prices.specs.Rule.{lawful_price}
 use Rattle.records.specs.declared.fault.RecordFault.{RecordFault}
 use Rattle.records.specs.declared.record.EntryFields.{EntryFields}
-use Rattle.records.specs.Refusals.{first_of, on_ok, unless}
+use Rattle.records.specs.Refusals.{first_of, unless}
 use Rattle.records.specs.Reading.{Reading, start, entry, withdrawal, opening, halt, resumption, closing, read_at}
 use Rattle.orders.specs.declared.fault.OrderFault.{OrderFault}
 use Rattle.orders.specs.declared.fault.OrderFault.TheVariants.{Record, Price, Quantity, Minimum, Mix}

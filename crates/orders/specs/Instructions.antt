@@ -1,6 +1,5 @@
 -- What an instruction says, as the record says it. Assumes nothing.
 use Rattle.std.specs.Prelude.{ℕ, List, take, drop}
-use Rattle.records.specs.declared.record.EntryFields.{EntryFields}
 use Rattle.records.specs.Reading.{Reading, start, entry, withdrawal, opening, halt, resumption, closing}
 use Rattle.orders.specs.declared.instruction.Instruction.{Instruction}
 use Rattle.orders.specs.declared.instruction.Instruction.TheVariants.{Start, Entry, Withdrawal, Opening, Halt, Resumption, Closing}

@@ -1,14 +1,13 @@
 -- The record at a place of an input: by how much of the input is left there.
-use Rattle.std.proofs.Common.{◌≡◌, ℕ, ◌+◌, ◌^◌, ◌<◌, ◌≤◌, min, cond, List, length, get_or, take, drop, Some, None, Ok, Err, sym, refl, ap, ◌∙◌, ⊎_elim, arith}
+use Rattle.std.proofs.Common.{◌≡◌, ℕ, ◌+◌, ◌^◌, ◌<◌, ◌≤◌, List, length, take, drop, Some, None, Ok, Err, refl, ap, ◌∙◌, ⊎_elim, arith}
 use Rattle.std.proofs.lemmas.List.{length-drop, length-take, get_or-take, get_or-drop, get_or_past, take_all}
 use Rattle.std.proofs.lemmas.Bool.{cases_lt, cond-true, cond-false, eq-eqb, ne_eqb, lt-ltb, le-ltb}
 use Rattle.records.specs.declared.fault.RecordFault.TheVariants.{Tail}
 use Rattle.records.specs.declared.record.EntryFields.{EntryFields}
 use Rattle.records.specs.Bytes.{entry_bytes, start_bytes, withdrawal_bytes}
 use Rattle.records.specs.Layout.{misfit, account_layout}
-use Rattle.records.specs.Reading.{Reading, entry, start, withdrawal, read_32, read_at}
+use Rattle.records.specs.Reading.{entry, start, withdrawal, read_32, read_at}
 use Rattle.records.specs.Refusals.{on_ok}
-use Rattle.records.specs.declared.fault.RecordFault.TheVariants.{Byte}
 use Rattle.records.proofs.RoundTrips.{IsBytes, entry_read_again, start_read_again, withdrawal_read_again}
 
 pub read_at_end : (input : List ℕ) (at : ℕ) → length input ≤ at → read_at input at ≡ Ok None

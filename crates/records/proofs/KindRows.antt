@@ -1,9 +1,8 @@
 -- The row of the table of kinds that a record's letter picks.
-use Rattle.std.proofs.Common.{◌≡◌, ℕ, cond, eqb, List, [], ◌∷◌, get_or, drop, Ok, Err, sym, refl, ap, ◌∙◌}
+use Rattle.std.proofs.Common.{◌≡◌, ℕ, List, [], ◌∷◌, get_or, Err, refl, ap, ◌∙◌}
 use Rattle.std.proofs.lemmas.Bool.{cond-false, ne_eqb}
 use Rattle.records.specs.declared.fault.RecordFault.TheVariants.{Kind}
-use Rattle.records.specs.Layout.{misfit, entry_layout, one_number_layout, letter_alone_layout}
-use Rattle.records.specs.Reading.{Reading, KindRow, kinds, read_by, read_32}
+use Rattle.records.specs.Reading.{KindRow, kinds, read_by, read_32}
 
 pub by_letter : (letter : ℕ) (b : List ℕ) (at : ℕ) → get_or b 0 0 ≡ letter → read_32 b at ≡ read_by letter kinds b at
 unfolding read_32

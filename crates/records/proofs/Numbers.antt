@@ -1,6 +1,5 @@
 -- Four bytes and their number.
-use Rattle.std.proofs.Common.{◌≡◌, ℕ, ◌+◌, ◌*◌, ◌/◌, ◌%◌, ◌^◌, ◌<◌, [], ◌∷◌, arith}
-use Rattle.records.specs.Bytes.{number_bytes, number_at}
+use Rattle.std.proofs.Common.{◌≡◌, ℕ, ◌+◌, ◌*◌, ◌/◌, ◌%◌, ◌^◌, ◌<◌, arith}
 
 pub record Four (n a b c d : ℕ) : Type 0 where
   pub first : n / 16777216 % 256 ≡ a

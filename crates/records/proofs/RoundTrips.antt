@@ -1,9 +1,9 @@
 -- A record that is read and written again, and one that is written and read again.
-use Rattle.std.proofs.Common.{◌≡◌, ℕ, zero, suc, ◌+◌, ◌*◌, ◌^◌, ◌<◌, ◌≤◌, true, false, cond, ◌||◌, eqb, List, [], ◌∷◌, ◌++◌, length, get_or, take, drop, replicate, Some, None, Ok, Err, Option, sym, refl, ap, ◌∙◌, subst, ⊎_elim, arith, lit<}
+use Rattle.std.proofs.Common.{◌≡◌, ℕ, zero, suc, ◌+◌, ◌^◌, ◌<◌, true, eqb, List, [], ◌∷◌, length, get_or, take, drop, replicate, Some, None, Ok, Option, sym, refl, ap, ◌∙◌, subst, ⊎_elim, arith, lit<}
 use Rattle.std.proofs.lemmas.List.{drop-drop, drop-take}
 use Rattle.std.proofs.lemmas.Bool.{cases_Bool, cond-true, cond-false, eqb-true, or_cases}
 use Rattle.records.specs.declared.layout.ByteRule.{ByteRule}
-use Rattle.records.specs.declared.layout.ByteRule.TheVariants.{Any, Zero, SideLetter, TypeLetter, QualifierLetter, CapacityLetter, Printable}
+use Rattle.records.specs.declared.layout.ByteRule.TheVariants.{Any, Zero, SideLetter, TypeLetter, QualifierLetter, CapacityLetter}
 use Rattle.records.specs.declared.letters.Side.{Side}
 use Rattle.records.specs.declared.letters.Side.TheVariants.{Buy, Sell}
 use Rattle.records.specs.declared.letters.OrderType.{OrderType}
@@ -12,17 +12,17 @@ use Rattle.records.specs.declared.letters.Qualifier.{Qualifier}
 use Rattle.records.specs.declared.letters.Qualifier.TheVariants.{Unqualified, FillOrKill, ImmediateOrCancel}
 use Rattle.records.specs.declared.letters.Capacity.{Capacity}
 use Rattle.records.specs.declared.letters.Capacity.TheVariants.{Investor, Dealer}
-use Rattle.records.specs.declared.fault.RecordFault.TheVariants.{Kind, Byte}
+use Rattle.records.specs.declared.fault.RecordFault.TheVariants.{Byte}
 use Rattle.records.specs.declared.record.EntryFields.{EntryFields}
 use Rattle.records.specs.Letters.{side_letter, side_of, type_letter, type_of, qualifier_letter, qualifier_of, capacity_letter, capacity_of}
 use Rattle.records.specs.Layout.{fits, misfit, entry_layout, one_number_layout, letter_alone_layout, account_layout}
-use Rattle.records.specs.Bytes.{entry_bytes, one_number_bytes, number_bytes, number_at}
-use Rattle.records.specs.Reading.{AccountIn, Reading, account_fault, start, entry, withdrawal, opening, halt, resumption, closing, KindRow, kinds, bytes_of, entry_after, read_by, read_32}
+use Rattle.records.specs.Bytes.{entry_bytes, one_number_bytes, number_at}
+use Rattle.records.specs.Reading.{AccountIn, Reading, account_fault, start, entry, withdrawal, KindRow, kinds, bytes_of, entry_after, read_by, read_32}
 use Rattle.records.proofs.Misfits.{Fit, fit_at, fit_from_none, none_from_fit}
 use Rattle.records.proofs.KindRows.{by_letter}
 use Rattle.records.specs.Refusals.{unless}
 use Rattle.std.specs.Option.{option_map}
-use Rattle.records.proofs.Numbers.{Four, bytes_again, number_again}
+use Rattle.records.proofs.Numbers.{bytes_again, number_again}
 
 -- the list of n items from i on
 abbrev pub listed : ℕ → ℕ → (ℕ → ℕ) → List ℕ

@@ -113,7 +113,7 @@ fn numbers_have_the_high_byte_first(rt: HostRuntime) -> Result<(), Fail> {
     assert_eq!(rt; fields.quantity, 500);
     assert_eq!(rt; fields.minimum, 300);
     assert_eq!(rt; account.place, 24);
-    assert!(rt; account.bytes == b"ACCOUNT1");
+    assert!(rt; account.bytes == b"ACCOUNT1".as_slice());
     for number in [0, 1, 255, 256, 0x0102_0304, 0x8000_0000, u32::MAX] {
         let mut bytes = [0; 32];
         write_withdrawal(number, &mut bytes);

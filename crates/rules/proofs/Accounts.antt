@@ -6,7 +6,7 @@ use Rattle.rules.specs.Lines.{Fill, Sweep, swept}
 use Rattle.rules.specs.Book.{Book, tape_holds, accepts, any_price, buys, dealt, effect, fault, fills_kind, lines_in, opens_at, others, paired, sought, step, struck, unless_fault, volume_of}
 use Rattle.rules.specs.Laws.{Lawful}
 use Rattle.rules.specs.History.{Accounted, Asked, Command, Desk, Event, EveryShareIsAccountedFor, Tape, asking, call_of, calling, closing, commanded, empty_tapes, entered_in, entering, event, free_on, halting, happened, history, joining, lapsed_in, market, on_tapes, opening, rests_in, resuming, showing, starting, tape_of, touched, traded, with_number, withdrawing, withdrawn_in, written_on}
-use Rattle.std.proofs.Common.{◌≡◌, ℕ, zero, suc, ◌+◌, ◌-◌, ◌≤◌, false, cond, eqb, leb, List, [], ◌∷◌, ◌++◌, map, length, Some, None, Option, sym, refl, ap, ◌∙◌, subst, arith, length-append}
+use Rattle.std.proofs.Common.{◌≡◌, ℕ, zero, suc, ◌+◌, ◌≤◌, false, cond, eqb, leb, List, [], ◌∷◌, ◌++◌, map, length, Some, None, Option, sym, refl, ap, ◌∙◌, subst, arith, length-append}
 use lib.ListN.{length-map}
 use Rattle.std.proofs.lemmas.Bool.{cond-true, cond-false, eqb-true, ltb-false}
 use Rattle.lines.specs.Kind.{Kind}

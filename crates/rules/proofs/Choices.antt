@@ -1,6 +1,6 @@
 -- The choice of the opening price passes the five tests, and nothing else does. Assumes nothing.
-use Rattle.std.proofs.Common.{◌≡◌, ℕ, ◌-◌, ◌<◌, ◌≤◌, max, Bool, true, false, ◌&&◌, eqb, ltb, ◌⊎◌, List, [], ◌∷◌, filter, sym, refl, ◌∙◌, subst, ⊎_elim, arith}
-use Rattle.std.specs.List.{ContainsAt as Has, AllByRecursion as All}
+use Rattle.std.proofs.Common.{◌≡◌, ℕ, ◌<◌, ◌≤◌, max, Bool, true, false, ◌&&◌, eqb, ltb, List, [], ◌∷◌, filter, sym, refl, ◌∙◌, subst, ⊎_elim, arith}
+use Rattle.std.specs.List.{ContainsAt, AllByRecursion}
 use Rattle.std.proofs.ByRecursion.{all-has, all_has_itself, All-weaker}
 use Rattle.std.proofs.lemmas.Bool.{and_from, and_left, and_parts, and_right, cases_Bool, cases_lt, cases_order, cond_both, cond-true, cond-false, eq-eqb, eqb-true, le-ltb, lt-ltb, ltb-false, ltb-true, ne_eqb, or_cases, or_from, or_left, or_parts, or_right, true≢false}
 use Rattle.rules.specs.Opening.{ChoiceIsSettled, Even, HighestBought, LowestSold, Nearer, Passes, best, by_signs, choice, distance, higher, imbalance_at, less_or, lower, nearer, remaining, trades_more, volume_at}
@@ -29,34 +29,34 @@ module _ (beats : ℕ → ℕ → Bool) (R : ℕ → ℕ → Type 0) (self : (x 
       (λ t. through _ q p (best_first q qs) (wins q p t))
       (λ f. best_first p qs)
 
-  best_all : (p : ℕ) (ps : List ℕ) → All (R (best beats p ps)) ps
+  best_all : (p : ℕ) (ps : List ℕ) → AllByRecursion (R (best beats p ps)) ps
   best_all p [] = tt
   best_all p (q ∷ qs) =
-      cond_both (beats q p) q p (λ k. R (best beats k qs) q × All (R (best beats k qs)) qs)
+      cond_both (beats q p) q p (λ k. R (best beats k qs) q × AllByRecursion (R (best beats k qs)) qs)
       (λ t. (best_first q qs, best_all q qs))
       (λ f. (through _ p q (best_first p qs) (keeps q p f), best_all p qs))
 
-best_in : (beats : ℕ → ℕ → Bool) (P : ℕ → Type 0) (p : ℕ) (ps : List ℕ) → P p → All P ps → P (best beats p ps)
+best_in : (beats : ℕ → ℕ → Bool) (P : ℕ → Type 0) (p : ℕ) (ps : List ℕ) → P p → AllByRecursion P ps → P (best beats p ps)
 best_in beats P p [] h a = h
 best_in beats P p (q ∷ qs) h a = cond_both (beats q p) q p (λ k. P (best beats k qs)) (λ _. best_in beats P q qs a.0 a.1) (λ _. best_in beats P p qs h a.1)
 
-all_two : (P Q S : ℕ → Type 0) → ((x : ℕ) → P x → Q x → S x) → (xs : List ℕ) → All P xs → All Q xs → All S xs
+all_two : (P Q S : ℕ → Type 0) → ((x : ℕ) → P x → Q x → S x) → (xs : List ℕ) → AllByRecursion P xs → AllByRecursion Q xs → AllByRecursion S xs
 all_two P Q S f [] h k = tt
 all_two P Q S f (x ∷ xs) h k = (f x h.0 k.0, all_two P Q S f xs h.1 k.1)
 
-kept_if : (t : ℕ → Bool) (P : ℕ → Type 0) (xs : List ℕ) → All (λ q. t q ≡ true → P q) xs → All P (filter t xs)
+kept_if : (t : ℕ → Bool) (P : ℕ → Type 0) (xs : List ℕ) → AllByRecursion (λ q. t q ≡ true → P q) xs → AllByRecursion P (filter t xs)
 kept_if t P [] a = tt
-kept_if t P (x ∷ xs) a = cond_both (t x) _ _ (All P) (λ e. (a.0 e, kept_if t P xs a.1)) (λ _. kept_if t P xs a.1)
+kept_if t P (x ∷ xs) a = cond_both (t x) _ _ (AllByRecursion P) (λ e. (a.0 e, kept_if t P xs a.1)) (λ _. kept_if t P xs a.1)
 
-kept_from : (t : ℕ → Bool) (P : ℕ → Type 0) (xs : List ℕ) → All P (filter t xs) → All (λ q. t q ≡ true → P q) xs
+kept_from : (t : ℕ → Bool) (P : ℕ → Type 0) (xs : List ℕ) → AllByRecursion P (filter t xs) → AllByRecursion (λ q. t q ≡ true → P q) xs
 kept_from t P [] a = tt
 kept_from t P (x ∷ xs) a =
     ⊎_elim
-    (λ (e : t x ≡ true). let b = subst (All P) (cond-true (t x) (x ∷ filter t xs) (filter t xs) e) a in ((λ _. b.0), kept_from t P xs b.1))
-    (λ (e : t x ≡ false). let b = subst (All P) (cond-false (t x) (x ∷ filter t xs) (filter t xs) e) a in ((λ y. absurd (true≢false (sym y ∙ e))), kept_from t P xs b))
+    (λ (e : t x ≡ true). let b = subst (AllByRecursion P) (cond-true (t x) (x ∷ filter t xs) (filter t xs) e) a in ((λ _. b.0), kept_from t P xs b.1))
+    (λ (e : t x ≡ false). let b = subst (AllByRecursion P) (cond-false (t x) (x ∷ filter t xs) (filter t xs) e) a in ((λ y. absurd (true≢false (sym y ∙ e))), kept_from t P xs b))
     (cases_Bool (t x))
 
-highest_all : (b : ℕ) (bs : List ℕ) → All (λ q. q ≤ best higher b bs) (b ∷ bs)
+highest_all : (b : ℕ) (bs : List ℕ) → AllByRecursion (λ q. q ≤ best higher b bs) (b ∷ bs)
 highest_all b bs =
     let R : ℕ → ℕ → Type 0 = λ x y. y ≤ x in
     let self : (x : ℕ) → R x x = λ x. omega arith in
@@ -65,7 +65,7 @@ highest_all b bs =
     let keeps : (q p : ℕ) → higher q p ≡ false → R p q = λ q p e. omega (arith, ltb-false p q e) in
     (best_first higher R self through wins keeps b bs, best_all higher R self through wins keeps b bs)
 
-lowest_all : (b : ℕ) (bs : List ℕ) → All (λ q. best lower b bs ≤ q) (b ∷ bs)
+lowest_all : (b : ℕ) (bs : List ℕ) → AllByRecursion (λ q. best lower b bs ≤ q) (b ∷ bs)
 lowest_all b bs =
     let R : ℕ → ℕ → Type 0 = λ x y. x ≤ y in
     let self : (x : ℕ) → R x x = λ x. omega arith in
@@ -88,7 +88,7 @@ module _ (d s : ℕ → ℕ) (ref : ℕ) where
   abbrev AsNear : ℕ → ℕ → Type 0
   AsNear x y = (D x ≤ D y) × (D y ≡ D x → y ≤ x)
 
-  nearest_all : (w : ℕ) (rs : List ℕ) → AsNear (best (nearer d s ref) w rs) w × All (AsNear (best (nearer d s ref) w rs)) rs
+  nearest_all : (w : ℕ) (rs : List ℕ) → AsNear (best (nearer d s ref) w rs) w × AllByRecursion (AsNear (best (nearer d s ref) w rs)) rs
   nearest_all w rs =
       let self : (x : ℕ) → AsNear x x = λ x. (omega arith, (λ _. omega arith)) in
       let through : (x y z : ℕ) → AsNear x y → AsNear y z → AsNear x z = λ x y z h k. (omega (arith, h.0, k.0), (λ e. omega (arith, h.1 (omega (arith, h.0, k.0)), k.1 (omega (arith, h.0, k.0))))) in
@@ -100,7 +100,7 @@ module _ (d s : ℕ → ℕ) (ref : ℕ) where
   abbrev AsMuch : ℕ → ℕ → Type 0
   AsMuch x y = (V y ≤ V x) × (V y ≡ V x → I x ≤ I y)
 
-  much_all : (p : ℕ) (ps : List ℕ) → All (AsMuch (best (trades_more d s ref) p ps)) (p ∷ ps)
+  much_all : (p : ℕ) (ps : List ℕ) → AllByRecursion (AsMuch (best (trades_more d s ref) p ps)) (p ∷ ps)
   much_all p ps =
       let self : (x : ℕ) → AsMuch x x = λ x. (omega arith, (λ _. omega arith)) in
       let through : (x y z : ℕ) → AsMuch x y → AsMuch y z → AsMuch x z = λ x y z h k. (omega (arith, h.0, k.0), (λ e. omega (arith, h.1 (omega (arith, h.0, k.0)), k.1 (omega (arith, h.0, k.0))))) in
@@ -111,7 +111,7 @@ module _ (d s : ℕ → ℕ) (ref : ℕ) where
   -- what remains with w of the prices A
   module _ (A : List ℕ) (w : ℕ) where
     abbrev Left : ℕ → Type 0
-    Left q = Has A q × Even d s ref q w
+    Left q = ContainsAt A q × Even d s ref q w
 
     abbrev Bought : ℕ → Type 0
     Bought q = Left q × (s q < d q)
@@ -122,42 +122,42 @@ module _ (d s : ℕ → ℕ) (ref : ℕ) where
     -- the tests three to five, of what remains with w
     pub record Settles (c : ℕ) : Type 0 where
       pub left : Left c
-      pub bought : All (λ q. Even d s ref q w → s q < d q) A → All (λ q. Even d s ref q w → q ≤ c) A
-      pub sold : All (λ q. Even d s ref q w → d q < s q) A → All (λ q. Even d s ref q w → c ≤ q) A
+      pub bought : AllByRecursion (λ q. Even d s ref q w → s q < d q) A → AllByRecursion (λ q. Even d s ref q w → q ≤ c) A
+      pub sold : AllByRecursion (λ q. Even d s ref q w → d q < s q) A → AllByRecursion (λ q. Even d s ref q w → c ≤ q) A
       pub both : (h l : ℕ) → HighestBought d s ref A w h → LowestSold d s ref A w l → Nearer d s ref h l c
-      pub even : All (λ q. Even d s ref q w → d q ≡ s q) A → All (λ q. Even d s ref q w → AsNear c q) A
+      pub even : AllByRecursion (λ q. Even d s ref q w → d q ≡ s q) A → AllByRecursion (λ q. Even d s ref q w → AsNear c q) A
 
     -- the signs of what remains
     data Signs : Type 0 where
-      none_over : All (λ q. Even d s ref q w → d q ≡ s q) A → Signs
-      all_over : All (λ q. Even d s ref q w → s q < d q) A → Signs
-      all_under : All (λ q. Even d s ref q w → d q < s q) A → Signs
+      none_over : AllByRecursion (λ q. Even d s ref q w → d q ≡ s q) A → Signs
+      all_over : AllByRecursion (λ q. Even d s ref q w → s q < d q) A → Signs
+      all_under : AllByRecursion (λ q. Even d s ref q w → d q < s q) A → Signs
       mixed : (h l : ℕ) → HighestBought d s ref A w h → LowestSold d s ref A w l → Signs
 
     -- lists of what remains, of those with buyers and of those with sellers in excess
     pub record Listed (rs bs ss : List ℕ) : Type 1 where
-      pub own : Has A w
-      pub each : All Left rs
-      pub each_bought : All Bought bs
-      pub each_sold : All Sold ss
-      pub from_all : (P : ℕ → Type 0) → All P rs → All (λ q. Even d s ref q w → P q) A
-      pub from_bought : (P : ℕ → Type 0) → All P bs → All (λ q. Even d s ref q w → s q < d q → P q) A
-      pub from_sold : (P : ℕ → Type 0) → All P ss → All (λ q. Even d s ref q w → d q < s q → P q) A
+      pub own : ContainsAt A w
+      pub each : AllByRecursion Left rs
+      pub each_bought : AllByRecursion Bought bs
+      pub each_sold : AllByRecursion Sold ss
+      pub from_all : (P : ℕ → Type 0) → AllByRecursion P rs → AllByRecursion (λ q. Even d s ref q w → P q) A
+      pub from_bought : (P : ℕ → Type 0) → AllByRecursion P bs → AllByRecursion (λ q. Even d s ref q w → s q < d q → P q) A
+      pub from_sold : (P : ℕ → Type 0) → AllByRecursion P ss → AllByRecursion (λ q. Even d s ref q w → d q < s q → P q) A
 
     same : Even d s ref w w
     same = (refl, refl)
 
     -- what holds of each that is even with w holds of one that remains
-    at : (P : ℕ → Type 0) (q : ℕ) → All (λ r. Even d s ref r w → P r) A → Left q → P q
+    at : (P : ℕ → Type 0) (q : ℕ) → AllByRecursion (λ r. Even d s ref r w → P r) A → Left q → P q
     at P q a h = all-has (λ r. Even d s ref r w → P r) A q a h.0 h.1
 
-    anything : (P : ℕ → Type 0) → ⊥ → All (λ q. Even d s ref q w → P q) A
+    anything : (P : ℕ → Type 0) → ⊥ → AllByRecursion (λ q. Even d s ref q w → P q) A
     anything P z = absurd z
 
-    high : (b : ℕ) (bs : List ℕ) → All Bought (b ∷ bs) → Bought (best higher b bs)
+    high : (b : ℕ) (bs : List ℕ) → AllByRecursion Bought (b ∷ bs) → Bought (best higher b bs)
     high b bs a = best_in higher Bought b bs a.0 a.1
 
-    low : (b : ℕ) (bs : List ℕ) → All Sold (b ∷ bs) → Sold (best lower b bs)
+    low : (b : ℕ) (bs : List ℕ) → AllByRecursion Sold (b ∷ bs) → Sold (best lower b bs)
     low b bs a = best_in lower Sold b bs a.0 a.1
 
     signs : (rs bs ss : List ℕ) → Listed rs bs ss → Signs
@@ -252,13 +252,13 @@ module _ (d s : ℕ → ℕ) (ref : ℕ) where
         }
 
     -- the tests speak of what is even with c as of what is even with w
-    passes : (c : ℕ) → All (AsMuch w) A → Settles c → Passes d s ref A c
+    passes : (c : ℕ) → AllByRecursion (AsMuch w) A → Settles c → Passes d s ref A c
     passes c much t =
         let e = t.left.1 in
         let to : (q : ℕ) → Even d s ref q c → Even d s ref q w = λ q f. (f.0 ∙ e.0, f.1 ∙ e.1) in
         let fro : (q : ℕ) → Even d s ref q w → Even d s ref q c = λ q f. (f.0 ∙ sym e.0, f.1 ∙ sym e.1) in
-        let on : (P : ℕ → Type 0) → All (λ q. Even d s ref q c → P q) A → All (λ q. Even d s ref q w → P q) A = λ P a. All-weaker (λ q. Even d s ref q c → P q) (λ q. Even d s ref q w → P q) (λ q f k. f (fro q k)) A a in
-        let back : (P : ℕ → Type 0) → All (λ q. Even d s ref q w → P q) A → All (λ q. Even d s ref q c → P q) A = λ P a. All-weaker (λ q. Even d s ref q w → P q) (λ q. Even d s ref q c → P q) (λ q f k. f (to q k)) A a in
+        let on : (P : ℕ → Type 0) → AllByRecursion (λ q. Even d s ref q c → P q) A → AllByRecursion (λ q. Even d s ref q w → P q) A = λ P a. All-weaker (λ q. Even d s ref q c → P q) (λ q. Even d s ref q w → P q) (λ q f k. f (fro q k)) A a in
+        let back : (P : ℕ → Type 0) → AllByRecursion (λ q. Even d s ref q w → P q) A → AllByRecursion (λ q. Even d s ref q c → P q) A = λ P a. All-weaker (λ q. Even d s ref q w → P q) (λ q. Even d s ref q c → P q) (λ q f k. f (to q k)) A a in
         record {
           listed = t.left.0;
           most_volume = All-weaker (AsMuch w) (λ q. V q ≤ V c) (λ q m. omega (arith, m.0, e.0)) A much;
@@ -283,18 +283,18 @@ module _ (d s : ℕ → ℕ) (ref : ℕ) where
       where
         go : Signs → V r ≡ V c → I r ≡ I c → Even d s ref r w → r ≡ c
         go (none_over a) v i er =
-            let near : (x y : ℕ) → Even d s ref x w → Even d s ref y w → Passes d s ref A x → Has A y → AsNear x y
+            let near : (x y : ℕ) → Even d s ref x w → Even d s ref y w → Passes d s ref A x → ContainsAt A y → AsNear x y
             = λ x y ex ey px hy. all-has (λ q. Even d s ref q x → AsNear x q) A y (px.all_even (All-weaker (λ q. Even d s ref q w → d q ≡ s q) (λ q. Even d s ref q x → d q ≡ s q) (λ q f k. f (k.0 ∙ ex.0, k.1 ∙ ex.1)) A a)) hy (ey.0 ∙ sym ex.0, ey.1 ∙ sym ex.1) in
             let rc = near r c er ec pr pc.listed in
             let cr = near c r ec er pc pr.listed in
             let dd : D c ≡ D r = omega (arith, rc.0, cr.0) in
             omega (arith, rc.1 dd, cr.1 (sym dd))
         go (all_over a) v i er =
-            let top : (x y : ℕ) → Even d s ref x w → Even d s ref y w → Passes d s ref A x → Has A y → y ≤ x
+            let top : (x y : ℕ) → Even d s ref x w → Even d s ref y w → Passes d s ref A x → ContainsAt A y → y ≤ x
             = λ x y ex ey px hy. all-has (λ q. Even d s ref q x → q ≤ x) A y (px.all_bought (All-weaker (λ q. Even d s ref q w → s q < d q) (λ q. Even d s ref q x → s q < d q) (λ q f k. f (k.0 ∙ ex.0, k.1 ∙ ex.1)) A a)) hy (ey.0 ∙ sym ex.0, ey.1 ∙ sym ex.1) in
             omega (arith, top r c er ec pr pc.listed, top c r ec er pc pr.listed)
         go (all_under a) v i er =
-            let bottom : (x y : ℕ) → Even d s ref x w → Even d s ref y w → Passes d s ref A x → Has A y → x ≤ y
+            let bottom : (x y : ℕ) → Even d s ref x w → Even d s ref y w → Passes d s ref A x → ContainsAt A y → x ≤ y
             = λ x y ex ey px hy. all-has (λ q. Even d s ref q x → x ≤ q) A y (px.all_sold (All-weaker (λ q. Even d s ref q w → d q < s q) (λ q. Even d s ref q x → d q < s q) (λ q f k. f (k.0 ∙ ex.0, k.1 ∙ ex.1)) A a)) hy (ey.0 ∙ sym ex.0, ey.1 ∙ sym ex.1) in
             omega (arith, bottom r c er ec pr pc.listed, bottom c r ec er pc pr.listed)
         go (mixed h l f g) v i er =
@@ -311,30 +311,30 @@ module _ (d s : ℕ → ℕ) (ref : ℕ) where
     abbrev rest : List ℕ
     rest = remaining d s ref w A
 
-    from_rest : (P : ℕ → Type 0) → All P rest → All (λ q. Even d s ref q w → P q) A
+    from_rest : (P : ℕ → Type 0) → AllByRecursion P rest → AllByRecursion (λ q. Even d s ref q w → P q) A
     from_rest P a =
         All-weaker (λ q. (eqb (V q) (V w) && eqb (I q) (I w)) ≡ true → P q) (λ q. Even d s ref q w → P q)
         (λ q f e. f (and_from (eqb (V q) (V w)) (eqb (I q) (I w)) (eq-eqb (V q) (V w) e.0) (eq-eqb (I q) (I w) e.1)))
         A (kept_from (λ q. eqb (V q) (V w) && eqb (I q) (I w)) P A a)
 
-    each_left : All Left rest
+    each_left : AllByRecursion Left rest
     each_left =
         kept_if (λ q. eqb (V q) (V w) && eqb (I q) (I w)) Left A
-        (All-weaker (Has A) (λ q. (eqb (V q) (V w) && eqb (I q) (I w)) ≡ true → Left q)
+        (All-weaker (ContainsAt A) (λ q. (eqb (V q) (V w) && eqb (I q) (I w)) ≡ true → Left q)
         (λ q h e. let p = and_parts (eqb (V q) (V w)) (eqb (I q) (I w)) e in (h, (eqb-true (V q) (V w) p.0, eqb-true (I q) (I w) p.1))) A (all_has_itself A))
 
     -- those of the rest at which m is below n
-    each_below : (m n : ℕ → ℕ) → All (λ q. Left q × (m q < n q)) (filter (λ q. ltb (m q) (n q)) rest)
+    each_below : (m n : ℕ → ℕ) → AllByRecursion (λ q. Left q × (m q < n q)) (filter (λ q. ltb (m q) (n q)) rest)
     each_below m n =
         kept_if (λ q. ltb (m q) (n q)) (λ q. Left q × (m q < n q)) rest
         (All-weaker Left (λ q. ltb (m q) (n q) ≡ true → Left q × (m q < n q)) (λ q h e. (h, ltb-true (m q) (n q) e)) rest each_left)
 
-    from_below : (m n : ℕ → ℕ) (P : ℕ → Type 0) → All P (filter (λ q. ltb (m q) (n q)) rest) → All (λ q. Even d s ref q w → m q < n q → P q) A
+    from_below : (m n : ℕ → ℕ) (P : ℕ → Type 0) → AllByRecursion P (filter (λ q. ltb (m q) (n q)) rest) → AllByRecursion (λ q. Even d s ref q w → m q < n q → P q) A
     from_below m n P a =
         All-weaker (λ q. Even d s ref q w → ltb (m q) (n q) ≡ true → P q) (λ q. Even d s ref q w → m q < n q → P q)
         (λ q f e l. f e (lt-ltb (m q) (n q) l)) A (from_rest (λ q. ltb (m q) (n q) ≡ true → P q) (kept_from (λ q. ltb (m q) (n q)) P rest a))
 
-    rest_listed : Has A w → Listed rest (filter (λ q. ltb (s q) (d q)) rest) (filter (λ q. ltb (d q) (s q)) rest)
+    rest_listed : ContainsAt A w → Listed rest (filter (λ q. ltb (s q) (d q)) rest) (filter (λ q. ltb (d q) (s q)) rest)
     rest_listed own = record {
       own = own;
       each = each_left;
@@ -350,8 +350,8 @@ unfolding choice
 choice_settled d s ref p ps =
     let w : ℕ = best (trades_more d s ref) p ps in
     let A : List ℕ = p ∷ ps in
-    let has : All (Has A) A = all_has_itself A in
-    let own : Has A w = best_in (trades_more d s ref) (Has A) p ps has.0 has.1 in
+    let has : AllByRecursion (ContainsAt A) A = all_has_itself A in
+    let own : ContainsAt A w = best_in (trades_more d s ref) (ContainsAt A) p ps has.0 has.1 in
     let k = rest_listed d s ref A w own in
     let t = settle d s ref A w _ _ _ k in
     let c = passes d s ref A w _ (much_all d s ref p ps) t in

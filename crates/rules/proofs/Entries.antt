@@ -10,7 +10,7 @@ use Rattle.orders.specs.Orders.{is_unqualified}
 use Rattle.rules.specs.Book.{Book, Call, accepts, accepts_at, buys, call, close, effect, eligible, enter, entered_with, halt, is_fill_or_kill, is_halted, is_preopen, is_running, join, open', opens_at, others, rests, rests_at, resume, show, sought, step, takes, withdraw}
 use Rattle.rules.specs.Laws.{Below, Pairwise, Uncrossed, Lawful}
 use Rattle.std.proofs.Common.{◌≡◌, ℕ, ◌-◌, ◌<◌, Bool, true, false, cond, not, ◌&&◌, ltb, List, Some, None, Option, refl, ap, arith}
-use Rattle.std.specs.List.{AllByRecursion as All}
+use Rattle.std.specs.List.{AllByRecursion}
 use Rattle.std.proofs.ByRecursion.{All-weaker}
 use Rattle.std.proofs.lemmas.Bool.{true≢false, false≢true, leb-false}
 use Rattle.lines.specs.Kind.{Kind, Taking}
@@ -88,7 +88,7 @@ module _ {L : Type 0} {K : Kind L} (W : Lawful K) where
   made_units o n p q = ap (λ r. r.units) (W.making.its_price o n p q)
 
   -- what an order does not accept is off its price
-  newcomer : (o : Order) (n : ℕ) (p d : Price) (q : ℕ) (b : Bool) (m : Option Price) (fs : List Fill) (ys : List L) → p ≡ rests_at d m fs → All (λ y. accepts_at b m (units K y) ≡ false) ys → News (Cheaper K) b (K.made o n p q) ys
+  newcomer : (o : Order) (n : ℕ) (p d : Price) (q : ℕ) (b : Bool) (m : Option Price) (fs : List Fill) (ys : List L) → p ≡ rests_at d m fs → AllByRecursion (λ y. accepts_at b m (units K y) ≡ false) ys → News (Cheaper K) b (K.made o n p q) ys
   newcomer o n p d q true None fs ys e a = All-weaker (λ y. accepts_at true None (units K y) ≡ false) (Cheaper K (K.made o n p q)) (λ y f. absurd (true≢false f)) ys a
   newcomer o n p d q true (Some l) fs ys e a = All-weaker (λ y. accepts_at true (Some l) (units K y) ≡ false) (Cheaper K (K.made o n p q)) (λ y f. omega (arith, leb-false (units K y) l.units f, made_units o n p q, ap (λ r. r.units) e)) ys a
   newcomer o n p d q false None fs ys e a = All-weaker (λ y. accepts_at false None (units K y) ≡ false) (λ y. Cheaper K y (K.made o n p q)) (λ y f. absurd (true≢false f)) ys a

@@ -3,17 +3,16 @@ use Rattle.prices.specs.declared.price.Price.{Price}
 use Rattle.orders.specs.declared.order.Order.{Order}
 use Rattle.orders.specs.Orders.{fields_of, is_limit, is_plain, is_unqualified}
 use Rattle.orders.specs.Rules.{type_by}
-use Rattle.records.specs.declared.letters.Side.{Side}
 use Rattle.records.specs.declared.letters.Side.TheVariants.{Sell}
-use Rattle.std.proofs.Common.{◌≡◌, ℕ, ◌+◌, ◌-◌, ◌%◌, ◌<◌, Bool, true, false, cond, not, ◌&&◌, ◌||◌, eqb, ltb, leb, ◌⊎◌, List, [], ◌∷◌, ◌++◌, map, IfSome, Some, None, Option, sym, refl, ap, ◌∙◌, subst, inl, inr, ⊎_elim, arith}
+use Rattle.std.proofs.Common.{◌≡◌, ℕ, ◌+◌, ◌-◌, ◌%◌, ◌<◌, Bool, true, false, cond, not, ◌&&◌, ◌||◌, eqb, ltb, leb, List, [], ◌∷◌, ◌++◌, map, IfSome, Some, None, Option, sym, refl, ap, ◌∙◌, subst, inl, inr, ⊎_elim, arith}
 use Rattle.rules.specs.declared.terms.Trade.{Trade}
 use Rattle.rules.specs.declared.terms.BookFault.{BookFault}
 use Rattle.rules.specs.Lines.{Fill, Sweep, has_number, is_empty, only, resting, swept, total}
 use Rattle.rules.specs.Book.{accepts, any_price, Book, buys, Call, closing_price, dealt, effect, entered_with, entry, fault, fills_kind, last_price, lines_in, opens_at, others, paired, rests, rests_at, sought, step, struck, unknown_holds, unless_fault, volume_of, withdraw}
-use Rattle.rules.specs.Laws.{Before, Good, Lawful, Pairwise, Sound, Uncrossed, fresh}
+use Rattle.rules.specs.Laws.{Before, Lawful, Pairwise, Sound, Uncrossed, fresh}
 use Rattle.rules.specs.Fair.{BooksStaySound, ClosesAt, EligibleFirst, EveryEventIsLawful, Fair, FairJoining, LawfulEvent, RestsAt, SomeOf, handed_back_by, last_of, total_of}
 use Rattle.rules.specs.History.{Asked, Desk, Tape, call_of, calling, closing, entering, event, free_on, halting, joining, market, opening, resuming, showing, withdrawing}
-use Rattle.std.specs.List.{AllByRecursion as All}
+use Rattle.std.specs.List.{AllByRecursion}
 use Rattle.std.proofs.ByRecursion.{All-weaker, All-append, All-map}
 use Rattle.std.proofs.lemmas.Bool.{and_parts, cases_Bool, leb-true, ltb-false, eqb-true, le-ltb, lt-ltb, ne_eqb, not-false, false≢true}
 use Rattle.lines.specs.Kind.{Kind}
@@ -32,14 +31,14 @@ use Rattle.rules.proofs.Sheets.{fair_sheet, levels_fit}
 use Rattle.rules.proofs.Markets.{Alive, each_book, each_event}
 
 -- no trade is empty
-paired_some : (p : Price) (bs ss : List Fill) → All (λ f. 0 < f.shares) ss → All (λ t. 0 < t.quantity) (paired p bs ss)
+paired_some : (p : Price) (bs ss : List Fill) → AllByRecursion (λ f. 0 < f.shares) ss → AllByRecursion (λ t. 0 < t.quantity) (paired p bs ss)
 paired_some p [] ss a = tt
 paired_some p (b ∷ bs) ss a =
     let w : Sweep Fill = swept fills_kind any_price b.shares ss in
     let r = sweep fills_kind any_price b.shares ss in
     All-append (λ t. 0 < t.quantity) (map (dealt p b) w.fills) (paired p bs w.rest) (All-map (λ t. 0 < t.quantity) (dealt p b) w.fills (fills_some r a)) (paired_some p bs w.rest (kept_all (λ f. 0 < f.shares) (λ q f l _. omega arith) r a))
 
-struck_some : (b : Bool) (n : ℕ) (fs : List Fill) → All (λ f. 0 < f.shares) fs → All (λ t. 0 < t.quantity) (map (struck b n) fs)
+struck_some : (b : Bool) (n : ℕ) (fs : List Fill) → AllByRecursion (λ f. 0 < f.shares) fs → AllByRecursion (λ t. 0 < t.quantity) (map (struck b n) fs)
 struck_some true n fs a = All-map (λ t. 0 < t.quantity) (struck true n) fs a
 struck_some false n fs a = All-map (λ t. 0 < t.quantity) (struck false n) fs a
 
@@ -54,17 +53,17 @@ struck_remembered d b n [] o = refl
 struck_remembered d true n (f ∷ fs) o = struck_last_of true n fs f.price
 struck_remembered d false n (f ∷ fs) o = struck_last_of false n fs f.price
 
-one_price : (p : Price) (ts : List Trade) → All (λ t. t.price ≡ p) ts → last_of ts (Some p) ≡ Some p
+one_price : (p : Price) (ts : List Trade) → AllByRecursion (λ t. t.price ≡ p) ts → last_of ts (Some p) ≡ Some p
 one_price p [] a = refl
 one_price p (t ∷ ts) a = ap (λ q. last_of ts (Some q)) a.0 ∙ one_price p ts a.1
 
-opening_remembered : (p : Price) (v : ℕ) (ts : List Trade) (o : Option Price) → total_of ts ≡ v → All (λ t. t.price ≡ p) ts → All (λ t. 0 < t.quantity) ts → cond (ltb 0 v) (Some p) o ≡ last_of ts o
+opening_remembered : (p : Price) (v : ℕ) (ts : List Trade) (o : Option Price) → total_of ts ≡ v → AllByRecursion (λ t. t.price ≡ p) ts → AllByRecursion (λ t. 0 < t.quantity) ts → cond (ltb 0 v) (Some p) o ≡ last_of ts o
 opening_remembered p v [] o e a k = ap (λ b. cond b (Some p) o) (le-ltb 0 v (omega arith))
 opening_remembered p v (t ∷ ts) o e a k = ap (λ b. cond b (Some p) o) (lt-ltb 0 v (omega arith)) ∙ sym (ap (λ q. last_of ts (Some q)) a.0 ∙ one_price p ts a.1)
 
 module _ {L : Type 0} (K : Kind L) where
   -- a number that is not among the lines has nothing left
-  none_rest : (n : ℕ) (xs : List L) → All (λ x. n ≡ K.number x → ⊥) xs → resting K n xs ≡ 0
+  none_rest : (n : ℕ) (xs : List L) → AllByRecursion (λ x. n ≡ K.number x → ⊥) xs → resting K n xs ≡ 0
   none_rest n [] a = refl
   none_rest n (x ∷ xs) a = omega (arith, only_false (eqb n (K.number x)) (K.left x) (ne_eqb n (K.number x) a.0), none_rest n xs a.1)
 
@@ -149,10 +148,10 @@ module _ {L : Type 0} {K : Kind L} (W : Lawful K) where
   fair_effect s resuming ts h f e = (refl, refl)
   fair_effect s closing ts h f e = (refl, closes_at s.last s.reference, refl, refl)
 
-  entry_some : (s : Book L) (o : Order) (z : ℕ) → Held K s → All (λ t. 0 < t.quantity) (entry K s o (swept K (accepts o) z (others K s o))).trades
+  entry_some : (s : Book L) (o : Order) (z : ℕ) → Held K s → AllByRecursion (λ t. 0 < t.quantity) (entry K s o (swept K (accepts o) z (others K s o))).trades
   entry_some s o z h = struck_some (buys o) s.next (swept K (accepts o) z (others K s o)).fills (fills_some (sweep K (accepts o) z (others K s o)) (all_left_some W (side_by (not (buys o))) s.next (others K s o) (other_side W (buys o) s h).good))
 
-  effect_some : (s : Book L) (a : Asked) (ts : List Tape) → Held K s → All (λ t. 0 < t.quantity) (effect K s (call_of a ts)).trades
+  effect_some : (s : Book L) (a : Asked) (ts : List Tape) → Held K s → AllByRecursion (λ t. 0 < t.quantity) (effect K s (call_of a ts)).trades
   effect_some s (joining o plain) ts h = entry_some s o 0 h
   effect_some s (entering o i) ts h = entry_some s o (sought K s o) h
   effect_some s (withdrawing n) ts h = tt
@@ -246,7 +245,7 @@ module _ {L : Type 0} {K : Kind L} (W : Lawful K) where
         lines_stay = lines_stay W b a ts h.0;
         judged = subst (FirstTold (Reason K b (call_of a ts)) in_order) (sym (told_step b a ts)) (first_reason K b (call_of a ts));
         room = trades_room W b a ts;
-        some_shares = by_step W (λ r. All (λ t. 0 < t.quantity) r.trades) b (call_of a ts) (λ _. tt) (λ _. effect_some b a ts h.0);
+        some_shares = by_step W (λ r. AllByRecursion (λ t. 0 < t.quantity) r.trades) b (call_of a ts) (λ _. tt) (λ _. effect_some b a ts h.0);
         remembered = by_step W (λ r. r.after.last ≡ last_of r.trades b.last) b (call_of a ts) (λ _. refl) (λ _. effect_remembered b a ts h.0);
         handed_back = handed_step b a ts;
         fair = by_step W (λ r. Fair K b a r.answer r.trades r.after) b (call_of a ts) (λ _. (refl, refl)) (fair_effect b a ts h.0 h.1);

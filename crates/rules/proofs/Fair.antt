@@ -10,8 +10,8 @@ use Rattle.orders.specs.Orders.{is_unqualified}
 use Rattle.orders.specs.Rules.{mix_rule, type_by}
 use Rattle.rules.specs.Book.{accepts_at, enter, Book, empty_holds, accepts, any_price, buys, dealt, eligible, entered_with, fills_kind, is_fill_or_kill, is_some, joins, last_price, opening_at, opens_at, others, paired, rests, rests_at, sought, struck, volume_of}
 use Rattle.rules.specs.Laws.{Good, Lawful}
-use Rattle.std.proofs.Common.{◌≡◌, ℕ, ◌+◌, ◌-◌, ◌%◌, ◌<◌, ◌≤◌, min, Bool, true, false, cond, not, ◌&&◌, eqb, ltb, leb, ◌⊎◌, List, [], ◌∷◌, map, Some, None, Option, sym, refl, ap, ◌∙◌, subst, inl, inr, ⊎_elim, arith}
-use Rattle.std.specs.List.{AllByRecursion as All}
+use Rattle.std.proofs.Common.{◌≡◌, ℕ, ◌+◌, ◌-◌, ◌%◌, ◌<◌, ◌≤◌, min, Bool, true, false, cond, not, ◌&&◌, eqb, ltb, leb, List, [], ◌∷◌, map, Some, None, Option, sym, refl, ap, ◌∙◌, subst, inl, inr, ⊎_elim, arith}
+use Rattle.std.specs.List.{AllByRecursion}
 use Rattle.std.proofs.ByRecursion.{All-weaker, All-append, All-map}
 use Rattle.std.proofs.lemmas.Bool.{and_cases, and_parts, cond_both, eqb-true, leb-true, lt-ltb, ltb-false, true≢false}
 use Rattle.std.proofs.lemmas.Bool.Decides.{nat_tests}
@@ -48,11 +48,11 @@ struck_rest None true n d (f ∷ fs) h = struck_last true n f.price fs
 struck_rest None false n d (f ∷ fs) h = struck_last false n f.price fs
 struck_rest (Some l) b n d fs h = refl
 
-struck_all : (b : Bool) (n : ℕ) (Q : ℕ → Price → Type 0) (fs : List Fill) → All (λ f. Q f.number f.price) fs → All (λ t. Q (cond b t.seller t.buyer) t.price) (map (struck b n) fs)
+struck_all : (b : Bool) (n : ℕ) (Q : ℕ → Price → Type 0) (fs : List Fill) → AllByRecursion (λ f. Q f.number f.price) fs → AllByRecursion (λ t. Q (cond b t.seller t.buyer) t.price) (map (struck b n) fs)
 struck_all true n Q fs a = All-map (λ t. Q t.seller t.price) (struck true n) fs a
 struck_all false n Q fs a = All-map (λ t. Q t.buyer t.price) (struck false n) fs a
 
-struck_party : (b : Bool) (n : ℕ) (fs : List Fill) → All (λ t. cond b t.buyer t.seller ≡ n) (map (struck b n) fs)
+struck_party : (b : Bool) (n : ℕ) (fs : List Fill) → AllByRecursion (λ t. cond b t.buyer t.seller ≡ n) (map (struck b n) fs)
 struck_party true n fs = All-map (λ t. t.buyer ≡ n) (struck true n) fs (all_any (λ f. n ≡ n) (λ f. refl) fs)
 struck_party false n fs = All-map (λ t. t.seller ≡ n) (struck false n) fs (all_any (λ f. n ≡ n) (λ f. refl) fs)
 
@@ -64,19 +64,19 @@ paired_volume p (b ∷ bs) ss l =
     let c = dealt_total b bs ss l in
     omega (arith, sum_append (λ t. t.quantity) (map (dealt p b) w.fills) (paired p bs w.rest), sum_map (λ t. t.quantity) (dealt p b) w.fills, paired_volume p bs w.rest c.1)
 
-paired_priced : (p : Price) (bs ss : List Fill) → All (λ t. t.price ≡ p) (paired p bs ss)
+paired_priced : (p : Price) (bs ss : List Fill) → AllByRecursion (λ t. t.price ≡ p) (paired p bs ss)
 paired_priced p [] ss = tt
 paired_priced p (b ∷ bs) ss =
     let w : Sweep Fill = swept fills_kind any_price b.shares ss in
     All-append (λ t. t.price ≡ p) (map (dealt p b) w.fills) (paired p bs w.rest) (All-map (λ t. t.price ≡ p) (dealt p b) w.fills (all_any (λ f. p ≡ p) (λ f. refl) w.fills)) (paired_priced p bs w.rest)
 
-paired_buyers : (P : ℕ → Type 0) (p : Price) (bs ss : List Fill) → All (λ f. P f.number) bs → All (λ t. P t.buyer) (paired p bs ss)
+paired_buyers : (P : ℕ → Type 0) (p : Price) (bs ss : List Fill) → AllByRecursion (λ f. P f.number) bs → AllByRecursion (λ t. P t.buyer) (paired p bs ss)
 paired_buyers P p [] ss a = tt
 paired_buyers P p (b ∷ bs) ss a =
     let w : Sweep Fill = swept fills_kind any_price b.shares ss in
     All-append (λ t. P t.buyer) (map (dealt p b) w.fills) (paired p bs w.rest) (All-map (λ t. P t.buyer) (dealt p b) w.fills (all_any (λ f. P b.number) (λ f. a.0) w.fills)) (paired_buyers P p bs w.rest a.1)
 
-paired_sellers : (P : ℕ → Type 0) (p : Price) (bs ss : List Fill) → All (λ f. P f.number) ss → All (λ t. P t.seller) (paired p bs ss)
+paired_sellers : (P : ℕ → Type 0) (p : Price) (bs ss : List Fill) → AllByRecursion (λ f. P f.number) ss → AllByRecursion (λ t. P t.seller) (paired p bs ss)
 paired_sellers P p [] ss a = tt
 paired_sellers P p (b ∷ bs) ss a =
     let w : Sweep Fill = swept fills_kind any_price b.shares ss in
@@ -93,7 +93,7 @@ module _ {L : Type 0} (K : Kind L) where
 
 module _ {L : Type 0} {K : Kind L} (W : Lawful K) where
   -- each fill is of a line that passes
-  fills_lines : {e : ℕ → Bool} (Q : L → Type 0) {q : ℕ} {xs : List L} {s : Sweep L} → Swept K e q xs s → ((x : L) → e (units K x) ≡ true → Q x) → All (λ f. SomeOf (λ y. (K.number y ≡ f.number) × Q y) xs) s.fills
+  fills_lines : {e : ℕ → Bool} (Q : L → Type 0) {q : ℕ} {xs : List L} {s : Sweep L} → Swept K e q xs s → ((x : L) → e (units K x) ≡ true → Q x) → AllByRecursion (λ f. SomeOf (λ y. (K.number y ≡ f.number) × Q y) xs) s.fills
   fills_lines {e} Q {xs} r h =
       fills_of (λ f. SomeOf (λ y. (K.number y ≡ f.number) × Q y) xs) r
       (All-weaker (λ x. SomeOf (λ y. x ≡ y) xs) (λ x. (n : ℕ) → e (units K x) ≡ true → SomeOf (λ y. (K.number y ≡ K.number x) × Q y) xs)
@@ -101,7 +101,7 @@ module _ {L : Type 0} {K : Kind L} (W : Lawful K) where
       xs (each_some (λ x y. x ≡ y) (λ x. refl) xs))
 
   -- each fill has the price of its line
-  fills_priced : {e : ℕ → Bool} {q : ℕ} {xs : List L} {s : Sweep L} → Swept K e q xs s → All (λ f. SomeOf (λ y. (K.number y ≡ f.number) × (K.price y ≡ f.price)) xs) s.fills
+  fills_priced : {e : ℕ → Bool} {q : ℕ} {xs : List L} {s : Sweep L} → Swept K e q xs s → AllByRecursion (λ f. SomeOf (λ y. (K.number y ≡ f.number) × (K.price y ≡ f.price)) xs) s.fills
   fills_priced {e} {xs} r =
       fills_of (λ f. SomeOf (λ y. (K.number y ≡ f.number) × (K.price y ≡ f.price)) xs) r
       (All-weaker (λ x. SomeOf (λ y. x ≡ y) xs) (λ x. (n : ℕ) → e (units K x) ≡ true → SomeOf (λ y. (K.number y ≡ K.number x) × (K.price y ≡ K.price x)) xs)
@@ -130,7 +130,7 @@ module _ {L : Type 0} {K : Kind L} (W : Lawful K) where
       (λ (z : is_empty (others K s o) ≡ false). omega (arith, some_eligible o.limit (buys o) (others K s o) m z (other_side W (buys o) s h).good))
       (and_cases (not (is_some o.limit)) (is_empty (others K s o)) e)
     where
-      some_eligible : (m' : Option Price) (b : Bool) (xs : List L) → is_some m' ≡ false → is_empty xs ≡ false → All (Good K (side_by (not b)) s.next) xs → 0 < shares K (accepts_at b m') xs
+      some_eligible : (m' : Option Price) (b : Bool) (xs : List L) → is_some m' ≡ false → is_empty xs ≡ false → AllByRecursion (Good K (side_by (not b)) s.next) xs → 0 < shares K (accepts_at b m') xs
       some_eligible (Some p) b xs e z a = absurd (true≢false e)
       some_eligible None b [] e z a = absurd (true≢false z)
       some_eligible None b (x ∷ xs) e z a = omega (arith, a.0.some_left)
@@ -199,7 +199,7 @@ module _ {L : Type 0} {K : Kind L} (W : Lawful K) where
       let e : total b.fills ≡ v = demand_traded W s p.units h in
       let f : total o.fills ≡ v = supply_traded W s p.units h in
       let at-price = paired_priced p b.fills o.fills in
-      let named : (party : Trade → ℕ) (R : ℕ → L → Type 0) (xs : List L) → All (λ t. SomeOf (λ x. (K.number x ≡ party t) × R p.units x) xs) (paired p b.fills o.fills) → All (λ t. SomeOf (λ x. (K.number x ≡ party t) × R t.price.units x) xs) (paired p b.fills o.fills)
+      let named : (party : Trade → ℕ) (R : ℕ → L → Type 0) (xs : List L) → AllByRecursion (λ t. SomeOf (λ x. (K.number x ≡ party t) × R p.units x) xs) (paired p b.fills o.fills) → AllByRecursion (λ t. SomeOf (λ x. (K.number x ≡ party t) × R t.price.units x) xs) (paired p b.fills o.fills)
       = λ party R xs a. all_two (λ t. t.price ≡ p) (λ t. SomeOf (λ x. (K.number x ≡ party t) × R p.units x) xs) (λ t. SomeOf (λ x. (K.number x ≡ party t) × R t.price.units x) xs)
       (λ t c k. subst (λ (z : Price). SomeOf (λ x. (K.number x ≡ party t) × R z.units x) xs) (sym c) k) (paired p b.fills o.fills) at-price a in
       record {

@@ -1,13 +1,13 @@
 -- What holds where nothing is refused. Assumes nothing.
 use Rattle.rules.specs.Book.{Book, Call, empty_holds, full_holds, sheet_holds, shortfall_holds, tape_holds, turn_holds, unknown_holds, fault, refusals, takes}
 use Rattle.std.proofs.Common.{◌≡◌, ℕ, Bool, true, false, List, [], ◌∷◌, Some, None, sym, ◌∙◌, ⊎_elim, arith}
-use Rattle.std.specs.List.{AllByRecursion as All}
+use Rattle.std.specs.List.{AllByRecursion}
 use Rattle.std.proofs.lemmas.Bool.{cases_Bool, cond-true, cond-false, not-false}
 use Rattle.records.specs.Refusals.{first_of}
 use Rattle.lines.specs.Kind.{Kind}
 
 -- where none is the first, no condition holds
-none_first : {F : Type 0} (rows : List (Bool × F)) → first_of rows ≡ None → All (λ row. row.0 ≡ false) rows
+none_first : {F : Type 0} (rows : List (Bool × F)) → first_of rows ≡ None → AllByRecursion (λ row. row.0 ≡ false) rows
 none_first [] e = tt
 none_first (row ∷ rows) e =
     ⊎_elim

@@ -7,8 +7,8 @@ use Rattle.rules.specs.Lines.{Sweep, any_passes, swept, total, units}
 use Rattle.orders.specs.Orders.{is_unqualified}
 use Rattle.rules.specs.Book.{Book, Call, full_holds, accepts, buys, call, close, effect, enter, halt, is_fill_or_kill, join, joins, lines_in, open', opens_at, others, volume_of, rests, rests_at, resume, show, sought, step, withdraw, eligible, entered_with}
 use Rattle.rules.specs.Laws.{Lawful, Pairwise}
-use Rattle.std.proofs.Common.{◌≡◌, ℕ, ◌+◌, ◌-◌, ◌<◌, ◌≤◌, Bool, true, false, cond, not, ◌&&◌, ltb, leb, ◌⊎◌, List, [], ◌∷◌, length, refl, ⊎_elim, arith}
-use Rattle.std.specs.List.{AllByRecursion as All}
+use Rattle.std.proofs.Common.{◌≡◌, ℕ, ◌+◌, ◌-◌, ◌<◌, ◌≤◌, Bool, true, false, cond, not, ◌&&◌, ltb, leb, List, [], ◌∷◌, length, refl, ⊎_elim, arith}
+use Rattle.std.specs.List.{AllByRecursion}
 use Rattle.std.proofs.lemmas.Bool.{and_cases, cases_Bool, cases_lt, cond_both, false≢true, leb-false, ltb-true, not-false, or_cases}
 use Rattle.lines.specs.Kind.{Kind}
 use Rattle.rules.proofs.Lists.{only_le, only_false}
@@ -23,7 +23,7 @@ module _ {L : Type 0} (K : Kind L) where
   front_passes : (e : ℕ → Bool) (x : L) (xs : List L) → Pairwise (Falls K e) (x ∷ xs) → any_passes K e (x ∷ xs) ≡ true → e (units K x) ≡ true
   front_passes e x xs a h = ⊎_elim (λ t. t) (λ t. later xs a.0 t) (or_cases (e (units K x)) (any_passes K e xs) h)
     where
-      later : (ys : List L) → All (Falls K e x) ys → any_passes K e ys ≡ true → e (units K x) ≡ true
+      later : (ys : List L) → AllByRecursion (Falls K e x) ys → any_passes K e ys ≡ true → e (units K x) ≡ true
       later [] f t = absurd (false≢true t)
       later (y ∷ ys) f t = ⊎_elim (λ u. f.0 u) (λ u. later ys f.1 u) (or_cases (e (units K y)) (any_passes K e ys) t)
 

@@ -4,7 +4,7 @@ use Rattle.orders.specs.declared.order.Order.{Order}
 use Rattle.rules.specs.declared.terms.Trade.{Trade}
 use Rattle.rules.specs.declared.terms.BookFault.{BookFault}
 use Rattle.rules.specs.History.{Asked, Tape, call_of, calling, closing, entered_as, entering, halting, joining, lapsed_as, opening, quantity_of, rests_in, resuming, showing, traded, withdrawing, withdrawn_as}
-use Rattle.rules.specs.Lines.{Fill, Sweep, only, resting, shares, sum_of, swept, total}
+use Rattle.rules.specs.Lines.{Fill, Sweep, only, resting, sum_of, swept, total}
 use Rattle.orders.specs.Orders.{is_unqualified}
 use Rattle.rules.specs.Book.{Book, Outcome, accepts, any_price, buys, dealt, effect, eligible, entered_with, fault, fills_kind, is_fill_or_kill, joins, opening_at, opens_at, others, paired, refused, rests, rests_at, sought, step, struck, unless_fault, volume_of}
 use Rattle.std.proofs.Common.{◌≡◌, ℕ, ◌+◌, ◌-◌, ◌≤◌, Bool, true, false, cond, ◌&&◌, eqb, ltb, leb, List, [], ◌∷◌, map, Some, None, Option, sym, refl, ap, ◌∙◌, arith}

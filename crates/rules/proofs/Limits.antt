@@ -3,7 +3,7 @@ use Rattle.prices.specs.declared.price.Price.{Price}
 use Rattle.orders.specs.declared.order.Order.{Order}
 use Rattle.records.specs.declared.letters.Side.{Side}
 use Rattle.records.specs.declared.letters.Side.TheVariants.{Buy, Sell}
-use Rattle.std.proofs.Common.{◌≡◌, ℕ, ◌+◌, ◌-◌, ◌<◌, ◌≤◌, Bool, true, false, cond, eqb, ltb, leb, List, [], ◌∷◌, ◌++◌, map, IfSome, Some, None, Option, sym, refl, ap, ◌∙◌, subst, arith, MatchOption}
+use Rattle.std.proofs.Common.{◌≡◌, ℕ, ◌+◌, ◌<◌, ◌≤◌, Bool, true, false, cond, eqb, ltb, leb, List, [], ◌∷◌, ◌++◌, map, IfSome, Some, None, Option, sym, refl, ap, ◌∙◌, subst, arith, MatchOption}
 use Rattle.rules.specs.declared.terms.Trade.{Trade}
 use Rattle.rules.specs.declared.terms.BookFault.{BookFault}
 use Rattle.rules.specs.Lines.{Sweep, only, swept, total, units}
@@ -11,7 +11,7 @@ use Rattle.rules.specs.Book.{Book, Call, Outcome, accepts, accepts_at, buys, cal
 use Rattle.rules.specs.Laws.{Good, Lawful}
 use Rattle.rules.specs.Fair.{InTurn, LimitsAreKept, LimitsKept, RestAccepts, RestsAt, SomeOf, TradesAt, last_traded, order_of, number_of}
 use Rattle.rules.specs.History.{Asked, Command, Desk, Event, Tape, asking, call_of, calling, closing, commanded, entering, event, free_on, halting, happened, history, joining, opening, resuming, showing, starting, touched, withdrawing}
-use Rattle.std.specs.List.{AllByRecursion as All}
+use Rattle.std.specs.List.{AllByRecursion}
 use Rattle.std.proofs.ByRecursion.{All-weaker, All-append}
 use Rattle.std.proofs.lemmas.Bool.{cond_both, cond-true, eqb-true, le-leb, ltb-true}
 use Rattle.lines.specs.Kind.{Kind, Taking}
@@ -51,7 +51,7 @@ as_line false true t n next l e f = f
 as_line false false t n next l e f = absurd (omega arith)
 
 -- each trade that takes in turn takes from a line
-in_turn_named : {L : Type 0} (K : Kind L) (party : Trade → ℕ) (P : Trade → L → Type 0) (xs : List L) (gone : ℕ → ℕ) (ts : List Trade) → InTurn K party P xs gone ts → All (λ t. SomeOf (λ x. (K.number x ≡ party t) × P t x) xs) ts
+in_turn_named : {L : Type 0} (K : Kind L) (party : Trade → ℕ) (P : Trade → L → Type 0) (xs : List L) (gone : ℕ → ℕ) (ts : List Trade) → InTurn K party P xs gone ts → AllByRecursion (λ t. SomeOf (λ x. (K.number x ≡ party t) × P t x) xs) ts
 in_turn_named K party P xs gone [] a = tt
 in_turn_named K party P xs gone (t ∷ ts) a =
     (some_weaker _ (λ x. (K.number x ≡ party t) × P t x) (λ x k. (k.0, k.1)) xs a.0, in_turn_named K party P xs (λ n. gone n + only (eqb n (party t)) t.quantity) ts a.1)
@@ -61,15 +61,15 @@ module _ {L : Type 0} {K : Kind L} (W : Lawful K) where
   T = W.taking
 
   module _ (Q : L → Type 0) (closed' : (q : ℕ) (x : L) → q < K.left x → Q x → Q (K.taken q x)) where
-    joins_all : (o : Order) (n : ℕ) (p : Price) (q : ℕ) (xs : List L) → (0 < q → Q (K.made o n p q)) → All Q xs → All Q (joins K o n p q xs)
-    joins_all o n p q xs k a = cond_both (ltb 0 q) _ _ (All Q) (λ t. all_placed K Q (K.made o n p q) xs (k (ltb-true 0 q t)) a) (λ _. a)
+    joins_all : (o : Order) (n : ℕ) (p : Price) (q : ℕ) (xs : List L) → (0 < q → Q (K.made o n p q)) → AllByRecursion Q xs → AllByRecursion Q (joins K o n p q xs)
+    joins_all o n p q xs k a = cond_both (ltb 0 q) _ _ (AllByRecursion Q) (λ t. all_placed K Q (K.made o n p q) xs (k (ltb-true 0 q t)) a) (λ _. a)
 
-    entry_lines : (b : Bool) (bs os : List L) (o : Order) (n : ℕ) (p : Price) (q : ℕ) {e : ℕ → Bool} {k : ℕ} {w : Sweep L} → Swept K e k (cond b os bs) w → (0 < q → Q (K.made o n p q)) → All Q bs → All Q os → All Q (cond b (joins K o n p q bs) w.rest) × All Q (cond b w.rest (joins K o n p q os))
+    entry_lines : (b : Bool) (bs os : List L) (o : Order) (n : ℕ) (p : Price) (q : ℕ) {e : ℕ → Bool} {k : ℕ} {w : Sweep L} → Swept K e k (cond b os bs) w → (0 < q → Q (K.made o n p q)) → AllByRecursion Q bs → AllByRecursion Q os → AllByRecursion Q (cond b (joins K o n p q bs) w.rest) × AllByRecursion Q (cond b w.rest (joins K o n p q os))
     entry_lines true bs os o n p q r k g h = (joins_all o n p q bs k g, kept_all Q closed' r h)
     entry_lines false bs os o n p q r k g h = (kept_all Q closed' r g, joins_all o n p q os k h)
 
     abbrev Both : Book L → Type 0
-    Both s = All Q s.buyers × All Q s.sellers
+    Both s = AllByRecursion Q s.buyers × AllByRecursion Q s.sellers
 
     entered_lines : (s : Book L) (o : Order) (z : ℕ) → let w = swept K (accepts o) z (others K s o) in (0 < rests K o (total w.fills) → Q (K.made o s.next (rests_at s.reference o.limit w.fills) (rests K o (total w.fills)))) → Both s → Both (entered_with K s o w)
     entered_lines s o z k h =
@@ -116,18 +116,18 @@ module _ {L : Type 0} {K : Kind L} (W : Lawful K) where
     abbrev Fine : Trade → Type 0
     Fine t = cond b t.buyer t.seller ≡ n → RestAccepts b m us t.price.units
 
-    opening_fine : (c : Bool) (bs os : List L) (t : Trade) → b ≡ c → All RestsSafe bs → All RestsSafe os → SomeOf (λ x. (K.number x ≡ t.buyer) × (t.price.units ≤ units K x)) bs → SomeOf (λ x. (K.number x ≡ t.seller) × (units K x ≤ t.price.units)) os → cond c t.buyer t.seller ≡ n → RestAccepts b m us t.price.units
+    opening_fine : (c : Bool) (bs os : List L) (t : Trade) → b ≡ c → AllByRecursion RestsSafe bs → AllByRecursion RestsSafe os → SomeOf (λ x. (K.number x ≡ t.buyer) × (t.price.units ≤ units K x)) bs → SomeOf (λ x. (K.number x ≡ t.seller) × (units K x ≤ t.price.units)) os → cond c t.buyer t.seller ≡ n → RestAccepts b m us t.price.units
     opening_fine true bs os t d g h u v f =
         all_some RestsSafe (λ x. (K.number x ≡ t.buyer) × (t.price.units ≤ units K x)) (RestAccepts b m us t.price.units) (λ x k j. k (j.0 ∙ f) t.price.units (subst (λ (z : Bool). AsGood z t.price.units (units K x)) (sym d) j.1)) bs g u
     opening_fine false bs os t d g h u v f =
         all_some RestsSafe (λ x. (K.number x ≡ t.seller) × (units K x ≤ t.price.units)) (RestAccepts b m us t.price.units) (λ x k j. k (j.0 ∙ f) t.price.units (subst (λ (z : Bool). AsGood z t.price.units (units K x)) (sym d) j.1)) os h v
 
-    pick_all : (c : Bool) (bs os : List L) → All RestsSafe bs → All RestsSafe os → All RestsSafe (cond c os bs)
+    pick_all : (c : Bool) (bs os : List L) → AllByRecursion RestsSafe bs → AllByRecursion RestsSafe os → AllByRecursion RestsSafe (cond c os bs)
     pick_all true bs os g h = h
     pick_all false bs os g h = g
 
-    effect_fine : (s : Book L) (c : Call) → fault K s c ≡ None → Held K s → n < s.next → All RestsSafe s.buyers → All RestsSafe s.sellers → All Fine (effect K s c).trades
-    effect_fine s (join o plain) z h l g k = subst (All Fine) (sym (fair_joining W s o plain).no_trades) tt
+    effect_fine : (s : Book L) (c : Call) → fault K s c ≡ None → Held K s → n < s.next → AllByRecursion RestsSafe s.buyers → AllByRecursion RestsSafe s.sellers → AllByRecursion Fine (effect K s c).trades
+    effect_fine s (join o plain) z h l g k = subst (AllByRecursion Fine) (sym (fair_joining W s o plain).no_trades) tt
     effect_fine s (enter o room) z h l g k =
         let f = fair_entry W s o room (faultless K s (enter o room) z) h in
         let line : Trade → Type 0 = λ t. SomeOf (λ x. (K.number x ≡ cond (buys o) t.seller t.buyer) × (K.price x ≡ t.price)) (others K s o) in
@@ -155,8 +155,8 @@ module _ {L : Type 0} {K : Kind L} (W : Lawful K) where
     pub record SafeBook (s : Book L) : Type 0 where
       pub held : Held K s
       pub older : n < s.next
-      pub of_buyers : All RestsSafe s.buyers
-      pub of_sellers : All RestsSafe s.sellers
+      pub of_buyers : AllByRecursion RestsSafe s.buyers
+      pub of_sellers : AllByRecursion RestsSafe s.sellers
 
     abbrev SafeDesk : Option (Desk L) → Type 0
     SafeDesk None = ⊥
@@ -164,7 +164,7 @@ module _ {L : Type 0} {K : Kind L} (W : Lawful K) where
 
     safe_step : (s : Book L) (c : Call) → SafeBook s → SafeBook (step K s c).after
     safe_step s c h =
-        let a = after_step W (λ t. All RestsSafe t.buyers × All RestsSafe t.sellers) s c (h.of_buyers, h.of_sellers)
+        let a = after_step W (λ t. AllByRecursion RestsSafe t.buyers × AllByRecursion RestsSafe t.sellers) s c (h.of_buyers, h.of_sellers)
         (λ _. effect_lines RestsSafe safe_kept s c (λ o p q e. absurd (omega (arith, W.making.its_number o s.next p q, h.older))) (h.of_buyers, h.of_sellers)) in
         record { held = sound_step W s c h.held; older = omega (arith, next_later s c, h.older); of_buyers = a.0; of_sellers = a.1 }
 
@@ -173,19 +173,19 @@ module _ {L : Type 0} {K : Kind L} (W : Lawful K) where
     safe_commanded (Some s) (starting reference run sizes) h = h
     safe_commanded (Some s) (asking a) h = safe_step s.book (call_of a s.tapes) h
 
-    fine_happened : (o : Option (Desk L)) (c : Command) → SafeDesk o → All (λ e. All Fine e.trades) (happened K o c)
+    fine_happened : (o : Option (Desk L)) (c : Command) → SafeDesk o → AllByRecursion (λ e. AllByRecursion Fine e.trades) (happened K o c)
     fine_happened None c h = tt
     fine_happened (Some s) (starting reference run sizes) h = tt
     fine_happened (Some s) (asking a) h =
         let c = call_of a s.tapes in
-        (by_step W (λ r. All Fine r.trades) s.book c (λ _. tt) (λ z. effect_fine s.book c z h.held h.older h.of_buyers h.of_sellers), tt)
+        (by_step W (λ r. AllByRecursion Fine r.trades) s.book c (λ _. tt) (λ z. effect_fine s.book c z h.held h.older h.of_buyers h.of_sellers), tt)
 
-    later_fine : (f : ℕ → Option (Desk L)) (cs : List (ℕ × Command)) (i : ℕ) → SafeDesk (f i) → All (λ e. All Fine e.trades) (history K f cs i)
+    later_fine : (f : ℕ → Option (Desk L)) (cs : List (ℕ × Command)) (i : ℕ) → SafeDesk (f i) → AllByRecursion (λ e. AllByRecursion Fine e.trades) (history K f cs i)
     later_fine f [] i h = tt
     later_fine f (c ∷ cs) i h =
         let f' : ℕ → Option (Desk L) = touched K f c.0 c.1 in
-        All-append (λ e. All Fine e.trades) (cond (eqb i c.0) (happened K (f i) c.1) []) (history K f' cs i)
-        (cond_both (eqb i c.0) (happened K (f i) c.1) [] (All (λ e. All Fine e.trades)) (λ _. fine_happened (f i) c.1 h) (λ _. tt))
+        All-append (λ e. AllByRecursion Fine e.trades) (cond (eqb i c.0) (happened K (f i) c.1) []) (history K f' cs i)
+        (cond_both (eqb i c.0) (happened K (f i) c.1) [] (AllByRecursion (λ e. AllByRecursion Fine e.trades)) (λ _. fine_happened (f i) c.1 h) (λ _. tt))
         (later_fine f' cs i
         (cond_both (eqb i c.0) (commanded K (f c.0) c.1) (f i) SafeDesk
         (λ t. subst (λ j. SafeDesk (commanded K (f j) c.1)) (eqb-true i c.0 t) (safe_commanded (f i) c.1 h)) (λ _. h)))
@@ -202,7 +202,7 @@ module _ {L : Type 0} {K : Kind L} (W : Lawful K) where
       let p : Price = rests_at s.reference o.limit w.fills in
       let ts : List Trade = map (struck (buys o) n) w.fills in
       let Q : L → Type 0 = RestsSafe (buys o) o.limit ts n in
-      let old : (c : Side) (xs : List L) → All (Good K c n) xs → All Q xs = λ c xs a. All-weaker (Good K c n) Q (λ x g e. absurd (omega (arith, g.numbered))) xs a in
+      let old : (c : Side) (xs : List L) → AllByRecursion (Good K c n) xs → AllByRecursion Q xs = λ c xs a. All-weaker (Good K c n) Q (λ x g e. absurd (omega (arith, g.numbered))) xs a in
       let a = entered_lines Q (safe_kept (buys o) o.limit ts n) s o z
       (λ l _ r g. safe_rest (buys o) o.limit ts p (k l) r (subst (λ (y : Price). AsGood (buys o) r y.units) (W.making.its_price o n p (rests K o (total w.fills))) g))
       (old Buy s.buyers h.buyers.good, old Sell s.sellers h.sellers.good) in
@@ -249,16 +249,16 @@ module _ {L : Type 0} {K : Kind L} (W : Lawful K) where
 
   -- what follows keeps to what the event left
   abbrev Follows : List (Event L) → Option (Desk L) → Type 0
-  Follows es d = (b : Bool) (m : Option Price) (us : List Trade) (n : ℕ) → SafeDesk b m us n d → All (λ e. All (Fine b m us n) e.trades) es
+  Follows es d = (b : Bool) (m : Option Price) (us : List Trade) (n : ℕ) → SafeDesk b m us n d → AllByRecursion (λ e. AllByRecursion (Fine b m us n) e.trades) es
 
   limit_event : (a : Asked) (r : Outcome L) (d : Desk L) (es : List (Event L)) → d.book ≡ r.after → Follows es (Some d) → OwnLimit a r →
       MatchOption (order_of a) (Unit {0}) (λ o. MatchOption (number_of r.answer) (Unit {0}) (λ n.
-      TradesAt (buys o) n (λ p. accepts o p ≡ true) r.trades × All (λ later. TradesAt (buys o) n (RestAccepts (buys o) o.limit r.trades) later.trades) es))
+      TradesAt (buys o) n (λ p. accepts o p ≡ true) r.trades × AllByRecursion (λ later. TradesAt (buys o) n (RestAccepts (buys o) o.limit r.trades) later.trades) es))
   limit_event a r d es e f k = go (order_of a) (number_of r.answer) k
     where
       go : (x : Option Order) (y : Option ℕ) →
           IfSome x (λ o. IfSome y (λ n. TradesAt (buys o) n (λ p. accepts o p ≡ true) r.trades × SafeBook (buys o) o.limit r.trades n r.after)) →
-          IfSome x (λ o. IfSome y (λ n. TradesAt (buys o) n (λ p. accepts o p ≡ true) r.trades × All (λ later. TradesAt (buys o) n (RestAccepts (buys o) o.limit r.trades) later.trades) es))
+          IfSome x (λ o. IfSome y (λ n. TradesAt (buys o) n (λ p. accepts o p ≡ true) r.trades × AllByRecursion (λ later. TradesAt (buys o) n (RestAccepts (buys o) o.limit r.trades) later.trades) es))
       go None y k = tt
       go (Some o) None k = tt
       go (Some o) (Some n) k = (k.0, f (buys o) o.limit r.trades n (subst (SafeBook (buys o) o.limit r.trades n) (sym e) k.1))

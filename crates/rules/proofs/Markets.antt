@@ -1,6 +1,6 @@
 -- What every call keeps, every book of a market has, after every list of commands. Assumes nothing.
 use Rattle.std.proofs.Common.{ℕ, cond, eqb, List, [], ◌∷◌, Some, None, Option}
-use Rattle.std.specs.List.{AllByRecursion as All}
+use Rattle.std.specs.List.{AllByRecursion}
 use Rattle.std.proofs.ByRecursion.{All-append}
 use Rattle.std.proofs.lemmas.Bool.{cond_both}
 use Rattle.prices.specs.declared.price.Price.{Price}
@@ -32,18 +32,18 @@ module _ {L : Type 0} (K : Kind L) (P : Book L → Type 0) (fresh-has : (referen
   each_book cs i = market_alive (λ _. None) cs (λ _. tt) i
 
   module _ (Q : Event L → Type 0) (event-has : (s : Desk L) (a : Asked) → P s.book → Q (event K s a)) where
-    happened_has : (o : Option (Desk L)) (c : Command) → Alive K P o → All Q (happened K o c)
+    happened_has : (o : Option (Desk L)) (c : Command) → Alive K P o → AllByRecursion Q (happened K o c)
     happened_has None c h = tt
     happened_has (Some s) (starting reference run sizes) h = tt
     happened_has (Some s) (asking a) h = (event-has s a h, tt)
 
-    history_has : (m : ℕ → Option (Desk L)) (cs : List (ℕ × Command)) (i : ℕ) → ((j : ℕ) → Alive K P (m j)) → All Q (history K m cs i)
+    history_has : (m : ℕ → Option (Desk L)) (cs : List (ℕ × Command)) (i : ℕ) → ((j : ℕ) → Alive K P (m j)) → AllByRecursion Q (history K m cs i)
     history_has m [] i h = tt
     history_has m (c ∷ cs) i h =
         let m' : ℕ → Option (Desk L) = touched K m c.0 c.1 in
         All-append Q (cond (eqb i c.0) (happened K (m i) c.1) []) (history K m' cs i)
-        (cond_both (eqb i c.0) (happened K (m i) c.1) [] (All Q) (λ _. happened_has (m i) c.1 (h i)) (λ _. tt))
+        (cond_both (eqb i c.0) (happened K (m i) c.1) [] (AllByRecursion Q) (λ _. happened_has (m i) c.1 (h i)) (λ _. tt))
         (history_has m' cs i (alive_touched m c.0 c.1 h))
 
-    pub each_event : (cs : List (ℕ × Command)) (i : ℕ) → All Q (history K (λ _. None) cs i)
+    pub each_event : (cs : List (ℕ × Command)) (i : ℕ) → AllByRecursion Q (history K (λ _. None) cs i)
     each_event cs i = history_has (λ _. None) cs i (λ _. tt)

@@ -7,8 +7,8 @@ use Rattle.rules.proofs.Volumes.{openings_settled}
 use Rattle.rules.specs.Lines.{shares, swept, units}
 use Rattle.rules.specs.Book.{Book, opens_at, priced_at, volume_of}
 use Rattle.rules.specs.Laws.{Below, Good, Lawful}
-use Rattle.std.proofs.Common.{◌≡◌, ℕ, ◌+◌, ◌-◌, ◌<◌, ◌≤◌, Bool, true, false, eqb, leb, ◌⊎◌, List, [], ◌∷◌, ◌++◌, map, sym, refl, ap, ◌∙◌, subst, inl, inr, ⊎_elim, arith}
-use Rattle.std.specs.List.{ContainsAt as Has, AllByRecursion as All}
+use Rattle.std.proofs.Common.{◌≡◌, ℕ, ◌<◌, ◌≤◌, Bool, true, false, eqb, leb, ◌⊎◌, List, [], ◌∷◌, ◌++◌, map, sym, refl, ap, ◌∙◌, subst, inl, inr, ⊎_elim, arith}
+use Rattle.std.specs.List.{ContainsAt, AllByRecursion}
 use Rattle.std.proofs.ByRecursion.{all-has, all_has_itself, All-weaker}
 use Rattle.std.proofs.lemmas.Bool.{cond-true, cond-false, eqb-false, cases_lt, cases_Bool, eqb-true, le-leb}
 use Rattle.lines.specs.Kind.{Kind}
@@ -19,7 +19,7 @@ use Rattle.rules.proofs.Prices.{demand_falls, supply_falls, demand_traded, suppl
 
 module _ {L : Type 0} (K : Kind L) where
   -- a line with shares left counts wherever its price passes
-  counts : (b : Side) (n : ℕ) (xs : List L) → All (Good K b n) xs → All (λ x. (d : ℕ → Bool) → d (units K x) ≡ true → 0 < shares K d xs) xs
+  counts : (b : Side) (n : ℕ) (xs : List L) → AllByRecursion (Good K b n) xs → AllByRecursion (λ x. (d : ℕ → Bool) → d (units K x) ≡ true → 0 < shares K d xs) xs
   counts b n [] a = tt
   counts b n (x ∷ xs) a = (
     λ d t. omega (arith, only_true (d (units K x)) (K.left x) t, a.0.some_left),
@@ -27,10 +27,10 @@ module _ {L : Type 0} (K : Kind L) where
   )
 
   -- if no price has both buyers and sellers, the sides do not cross
-  no_cross : (n : ℕ) (bs os : List L) → All (Good K Buy n) bs → All (Good K Sell n) os → ((q : ℕ) → 0 < shares K (leb q) bs → 0 < shares K (λ r. leb r q) os → ⊥) → Below K bs os
+  no_cross : (n : ℕ) (bs os : List L) → AllByRecursion (Good K Buy n) bs → AllByRecursion (Good K Sell n) os → ((q : ℕ) → 0 < shares K (leb q) bs → 0 < shares K (λ r. leb r q) os → ⊥) → Below K bs os
   no_cross n bs os gb go never =
       let C : List L → L → Type 0 = λ xs x. (d : ℕ → Bool) → d (units K x) ≡ true → 0 < shares K d xs in
-      All-weaker (C bs) (λ b. All (λ o. units K b < units K o) os)
+      All-weaker (C bs) (λ b. AllByRecursion (λ o. units K b < units K o) os)
       (λ b cb. All-weaker (C os) (λ o. units K b < units K o)
       (λ o co. ⊎_elim (λ l. l)
       (λ l. absurd (never (units K o) (cb (leb (units K o)) (le-leb (units K o) (units K b) l)) (co (λ r. leb r (units K o)) (le-leb (units K o) (units K o) (omega arith)))))
@@ -58,7 +58,7 @@ module _ {L : Type 0} {K : Kind L} (W : Lawful K) where
       ))
 
 -- the price with the units of one of the lines
-priced_units : {L : Type 0} (K : Kind L) (d : Price) (n : ℕ) (xs : List L) → (n ≡ d.units) ⊎ Has (map (units K) xs) n → (priced_at K d n xs).units ≡ n
+priced_units : {L : Type 0} (K : Kind L) (d : Price) (n : ℕ) (xs : List L) → (n ≡ d.units) ⊎ ContainsAt (map (units K) xs) n → (priced_at K d n xs).units ≡ n
 priced_units K d n [] (inl e) = sym e
 priced_units K d n [] (inr h) = absurd (all-has (λ _. ⊥) [] n tt h)
 priced_units K d n (x ∷ xs) h =
@@ -67,10 +67,10 @@ priced_units K d n (x ∷ xs) h =
     (λ (f : eqb n (units K x) ≡ false). ap (λ p. p.units) (cond-false (eqb n (units K x)) (K.price x) (priced_at K d n xs) f) ∙ priced_units K d n xs (later h f))
     (cases_Bool (eqb n (units K x)))
   where
-    later : (n ≡ d.units) ⊎ Has (map (units K) (x ∷ xs)) n → eqb n (units K x) ≡ false → (n ≡ d.units) ⊎ Has (map (units K) xs) n
+    later : (n ≡ d.units) ⊎ ContainsAt (map (units K) (x ∷ xs)) n → eqb n (units K x) ≡ false → (n ≡ d.units) ⊎ ContainsAt (map (units K) xs) n
     later (inl e) f = inl e
-    later (inr h) f = inr (all-has (λ m. (m ≡ n) → Has (map (units K) xs) n) (units K x ∷ map (units K) xs) n
-        ((λ e. absurd (eqb-false n (units K x) f (sym e))), All-weaker (Has (map (units K) xs)) (λ m. (m ≡ n) → Has (map (units K) xs) n) (λ m k e. subst (Has (map (units K) xs)) e k) (map (units K) xs) (all_has_itself (map (units K) xs))) h refl)
+    later (inr h) f = inr (all-has (λ m. (m ≡ n) → ContainsAt (map (units K) xs) n) (units K x ∷ map (units K) xs) n
+        ((λ e. absurd (eqb-false n (units K x) f (sym e))), All-weaker (ContainsAt (map (units K) xs)) (λ m. (m ≡ n) → ContainsAt (map (units K) xs) n) (λ m k e. subst (ContainsAt (map (units K) xs)) e k) (map (units K) xs) (all_has_itself (map (units K) xs))) h refl)
 
 -- the opening price in units
 pub opens_units : {L : Type 0} (K : Kind L) (s : Book L) → (opens_at K s).units ≡ opening_price K s.reference.units s.buyers s.sellers

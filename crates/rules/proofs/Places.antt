@@ -1,8 +1,8 @@
 -- A line that joins its side, and one that leaves. Assumes nothing.
 use Rattle.rules.specs.Lines.{only, placed, resting, sum_of, without}
 use Rattle.rules.specs.Laws.{Before, Pairwise}
-use Rattle.std.proofs.Common.{◌≡◌, ℕ, ◌+◌, ◌-◌, ◌≤◌, not, eqb, List, [], ◌∷◌, length, sym, refl, ap, ◌∙◌, arith}
-use Rattle.std.specs.List.{AllByRecursion as All}
+use Rattle.std.proofs.Common.{◌≡◌, ℕ, ◌+◌, ◌≤◌, not, eqb, List, [], ◌∷◌, length, sym, refl, ap, ◌∙◌, arith}
+use Rattle.std.specs.List.{AllByRecursion}
 use Rattle.std.proofs.lemmas.Bool.{cond_both, eqb-true}
 use Rattle.lines.specs.Kind.{Kind}
 use Rattle.ordered_run.specs.Ranking.{Ranking}
@@ -21,20 +21,20 @@ module _ {L : Type 0} (K : Kind L) where
   length_without n [] = omega arith
   length_without n (x ∷ xs) = cond_both (eqb n (K.number x)) _ _ (λ zs. length zs ≤ length (x ∷ xs)) (λ _. omega (arith, length_without n xs)) (λ _. omega (arith, length_without n xs))
 
-  pub all_placed : (P : L → Type 0) (x : L) (xs : List L) → P x → All P xs → All P (placed K x xs)
+  pub all_placed : (P : L → Type 0) (x : L) (xs : List L) → P x → AllByRecursion P xs → AllByRecursion P (placed K x xs)
   all_placed P x [] h a = (h, tt)
-  all_placed P x (y ∷ ys) h a = cond_both (K.precedes x y) _ _ (All P) (λ _. (h, a)) (λ _. (a.0, all_placed P x ys h a.1))
+  all_placed P x (y ∷ ys) h a = cond_both (K.precedes x y) _ _ (AllByRecursion P) (λ _. (h, a)) (λ _. (a.0, all_placed P x ys h a.1))
 
-  pub ranked_placed : Ranking K.number K.precedes → (x : L) (xs : List L) → All (λ y. K.number x ≡ K.number y → ⊥) xs → Pairwise (Before K) xs → Pairwise (Before K) (placed K x xs)
+  pub ranked_placed : Ranking K.number K.precedes → (x : L) (xs : List L) → AllByRecursion (λ y. K.number x ≡ K.number y → ⊥) xs → Pairwise (Before K) xs → Pairwise (Before K) (placed K x xs)
   ranked_placed R x [] n r = (tt, tt)
   ranked_placed R x (y ∷ ys) n r =
       cond_both (K.precedes x y) _ _ (Pairwise (Before K))
       (λ t. (((t, n.0), all_two (Before K y) (λ z. K.number x ≡ K.number z → ⊥) (Before K x) (λ z b m. (R.transitive x y z t b.0, m)) ys r.0 n.1), r))
       (λ f. (all_placed (Before K y) x ys (R.total x y n.0 ∙ ap not f, λ e. n.0 (sym e)) r.0, ranked_placed R x ys n.1 r.1))
 
-  pub all_without : (P : L → Type 0) (n : ℕ) (xs : List L) → All P xs → All P (without K n xs)
+  pub all_without : (P : L → Type 0) (n : ℕ) (xs : List L) → AllByRecursion P xs → AllByRecursion P (without K n xs)
   all_without P n [] a = tt
-  all_without P n (x ∷ xs) a = cond_both (eqb n (K.number x)) _ _ (All P) (λ _. all_without P n xs a.1) (λ _. (a.0, all_without P n xs a.1))
+  all_without P n (x ∷ xs) a = cond_both (eqb n (K.number x)) _ _ (AllByRecursion P) (λ _. all_without P n xs a.1) (λ _. (a.0, all_without P n xs a.1))
 
   pub pairwise_without : (R : L → L → Type 0) (n : ℕ) (xs : List L) → Pairwise R xs → Pairwise R (without K n xs)
   pairwise_without R n [] a = tt

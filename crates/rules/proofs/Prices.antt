@@ -3,7 +3,7 @@ use Rattle.records.specs.declared.letters.Side.TheVariants.{Buy, Sell}
 use Rattle.rules.specs.Lines.{swept, total, units}
 use Rattle.rules.specs.Book.{Book, volume_of}
 use Rattle.rules.specs.Laws.{Before, Good, Pairwise, Lawful}
-use Rattle.std.proofs.Common.{◌≡◌, ℕ, ◌-◌, ◌≤◌, true, leb, ◌⊎◌, List, sym, ◌∙◌, ⊎_elim, arith}
+use Rattle.std.proofs.Common.{◌≡◌, ℕ, ◌≤◌, true, leb, List, sym, ◌∙◌, ⊎_elim, arith}
 use Rattle.std.proofs.lemmas.Bool.{true≢false, cases_lt, leb-true, le-leb}
 use Rattle.lines.specs.Kind.{Kind}
 use Rattle.rules.proofs.Lists.{pairwise_weaker}

@@ -1,6 +1,6 @@
 -- What is told is the first reason. Assumes nothing.
-use Rattle.std.proofs.Common.{◌≡◌, ℕ, ◌+◌, ◌*◌, ◌<◌, ◌≤◌, Bool, true, false, not, ◌&&◌, ◌||◌, eqb, ltb, leb, ◌⊎◌, List, [], ◌∷◌, ◌++◌, map, length, Some, None, Option, sym, refl, ap, ◌∙◌, subst, inl, inr, ⊎_elim, arith, MatchOption}
-use Rattle.std.specs.List.{AllByRecursion as All}
+use Rattle.std.proofs.Common.{◌≡◌, ℕ, ◌*◌, ◌<◌, ◌≤◌, Bool, true, false, not, ◌&&◌, ◌||◌, eqb, ltb, leb, List, [], ◌∷◌, ◌++◌, map, length, Some, None, Option, sym, refl, ap, ◌∙◌, subst, inl, inr, ⊎_elim, arith, MatchOption}
+use Rattle.std.specs.List.{AllByRecursion}
 use Rattle.std.proofs.lemmas.Bool.{and_cases, and_parts, cases_Bool, cond-false, cond-true, eqb-false, eqb-true, false≢true, leb-false, leb-true, ltb-false, ltb-true, not-true, or_parts, true≢false}
 use Rattle.prices.specs.declared.price.Price.{Price}
 use Rattle.records.specs.declared.letters.Qualifier.{Qualifier}
@@ -68,7 +68,7 @@ module _ {L : Type 0} (K : Kind L) where
   by_band reference None = never
   by_band reference (Some l) = by_ltb reference.units (apart l.units reference.units * 10)
 
-  by_none_passes : (e : ℕ → Bool) (xs : List L) → Decides (not (any_passes K e xs)) (All (λ x. e (units K x) ≡ false) xs)
+  by_none_passes : (e : ℕ → Bool) (xs : List L) → Decides (not (any_passes K e xs)) (AllByRecursion (λ x. e (units K x) ≡ false) xs)
   by_none_passes e [] = record { yes = λ _. tt; no = λ f _. true≢false f }
   by_none_passes e (x ∷ xs) =
       let h = by_none_passes e xs in
@@ -77,7 +77,7 @@ module _ {L : Type 0} (K : Kind L) where
         no = λ f a. h.no (ap (λ b. not (b || any_passes K e xs)) (sym a.0) ∙ f) a.1;
       }
 
-  by_not_there : (n : ℕ) (xs : List L) → Decides (not (has_number K n xs)) (All (λ x. K.number x ≡ n → ⊥) xs)
+  by_not_there : (n : ℕ) (xs : List L) → Decides (not (has_number K n xs)) (AllByRecursion (λ x. K.number x ≡ n → ⊥) xs)
   by_not_there n [] = record { yes = λ _. tt; no = λ f _. true≢false f }
   by_not_there n (x ∷ xs) =
       let h = by_not_there n xs in
@@ -89,7 +89,7 @@ module _ {L : Type 0} (K : Kind L) where
             (cases_Bool (eqb n (K.number x)));
       }
 
-  by_unknown : (n : ℕ) (bs ss : List L) → Decides (not (has_number K n bs || has_number K n ss)) (All (λ x. K.number x ≡ n → ⊥) (bs ++ ss))
+  by_unknown : (n : ℕ) (bs ss : List L) → Decides (not (has_number K n bs || has_number K n ss)) (AllByRecursion (λ x. K.number x ≡ n → ⊥) (bs ++ ss))
   by_unknown n [] ss = by_not_there n ss
   by_unknown n (x ∷ xs) ss =
       let h = by_unknown n xs ss in
@@ -104,7 +104,7 @@ module _ {L : Type 0} (K : Kind L) where
             (cases_Bool (eqb n (K.number x)));
       }
 
-  in_turn_row : (t : Status) (c : Call) → Decides (not (takes K t c)) (All (λ u. t ≡ u → ⊥) (turns_of c))
+  in_turn_row : (t : Status) (c : Call) → Decides (not (takes K t c)) (AllByRecursion (λ u. t ≡ u → ⊥) (turns_of c))
   in_turn_row PreOpen (join o plain) = record { yes = λ e. absurd (false≢true e); no = λ _ a. a.0 refl }
   in_turn_row Calling (join o plain) = record { yes = λ _. (apart_by Calling PreOpen (λ e. omega (arith, e)), tt); no = λ e _. true≢false e }
   in_turn_row Running (join o plain) = record { yes = λ _. (apart_by Running PreOpen (λ e. omega (arith, e)), tt); no = λ e _. true≢false e }
@@ -239,10 +239,10 @@ module _ {L : Type 0} (K : Kind L) where
   by_unknown_row s resume = never
   by_unknown_row s close = never
 
-  rows_decide : (s : Book L) (c : Call) → All (λ row. Decides row.0 (Reason K s c row.1)) (refusals K s c)
+  rows_decide : (s : Book L) (c : Call) → AllByRecursion (λ row. Decides row.0 (Reason K s c row.1)) (refusals K s c)
   rows_decide s c = (in_turn_row s.status c, (by_spent_row s c, (by_band_row s c, (by_empty_row s c, (by_tape_row s c, (by_shortfall_row s c, (by_full_row s c, (by_sheet_row s c, (by_unknown_row s c, tt)))))))))
 
-  first_told : (P : BookFault → Type 0) (rows : List (Bool × BookFault)) → All (λ row. Decides row.0 (P row.1)) rows → FirstTold P (map (λ row. row.1) rows) (first_of rows)
+  first_told : (P : BookFault → Type 0) (rows : List (Bool × BookFault)) → AllByRecursion (λ row. Decides row.0 (P row.1)) rows → FirstTold P (map (λ row. row.1) rows) (first_of rows)
   first_told P [] a = refl
   first_told P (row ∷ rows) a =
       ⊎_elim

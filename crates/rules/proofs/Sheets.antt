@@ -1,7 +1,7 @@
 -- The sheet has a level for each price. Assumes nothing.
-use Rattle.std.proofs.Common.{◌≡◌, ◌+◌, ◌<◌, ◌≤◌, false, eqb, ltb, ◌⊎◌, List, [], ◌∷◌, ◌++◌, map, length, sym, refl, inl, inr, ⊎_elim, arith, length-append}
+use Rattle.std.proofs.Common.{◌≡◌, ◌+◌, ◌<◌, ◌≤◌, false, eqb, ltb, List, [], ◌∷◌, ◌++◌, map, length, sym, refl, inl, inr, ⊎_elim, arith, length-append}
 use lib.ListN.{length-map}
-use Rattle.std.specs.List.{AllByRecursion as All}
+use Rattle.std.specs.List.{AllByRecursion}
 use Rattle.std.proofs.ByRecursion.{All-weaker, All-map}
 use Rattle.std.proofs.lemmas.Bool.{cond_both, eqb-true, eqb-false, ltb-true, ltb-false}
 use Rattle.prices.specs.declared.price.Price.{Price}
@@ -16,11 +16,11 @@ use Rattle.rules.proofs.Lists.{all_any, some_map}
 abbrev Higher : Price → Price → Type 0
 Higher p q = q.units < p.units
 
-ranged_all : (P : Price → Type 0) (p : Price) (qs : List Price) → P p → All P qs → All P (ranged p qs)
+ranged_all : (P : Price → Type 0) (p : Price) (qs : List Price) → P p → AllByRecursion P qs → AllByRecursion P (ranged p qs)
 ranged_all P p [] h a = (h, tt)
 ranged_all P p (q ∷ qs) h a =
-    cond_both (eqb p.units q.units) _ _ (All P) (λ _. a)
-    (λ _. cond_both (ltb q.units p.units) _ _ (All P) (λ _. (h, a)) (λ _. (a.0, ranged_all P p qs h a.1)))
+    cond_both (eqb p.units q.units) _ _ (AllByRecursion P) (λ _. a)
+    (λ _. cond_both (ltb q.units p.units) _ _ (AllByRecursion P) (λ _. (h, a)) (λ _. (a.0, ranged_all P p qs h a.1)))
 
 ranged_falls : (p : Price) (qs : List Price) → Pairwise Higher qs → Pairwise Higher (ranged p qs)
 ranged_falls p [] h = (tt, tt)
@@ -60,7 +60,7 @@ module _ {L : Type 0} (K : Kind L) where
   range_falls [] = tt
   range_falls (x ∷ xs) = ranged_falls (K.price x) (price_range K xs) (range_falls xs)
 
-  range_has : (xs : List L) → All (λ x. SomeOf (λ q. q.units ≡ units K x) (price_range K xs)) xs
+  range_has : (xs : List L) → AllByRecursion (λ x. SomeOf (λ q. q.units ≡ units K x) (price_range K xs)) xs
   range_has [] = tt
   range_has (x ∷ xs) = (
     ranged_has (K.price x) (price_range K xs),
@@ -68,7 +68,7 @@ module _ {L : Type 0} (K : Kind L) where
         (λ y k. ranged_keeps (λ q. q.units ≡ units K y) (K.price x) (price_range K xs) k) xs (range_has xs),
   )
 
-  range_of : (xs : List L) → All (λ q. SomeOf (λ x. K.price x ≡ q) xs) (price_range K xs)
+  range_of : (xs : List L) → AllByRecursion (λ q. SomeOf (λ x. K.price x ≡ q) xs) (price_range K xs)
   range_of [] = tt
   range_of (x ∷ xs) =
       ranged_all (λ q. SomeOf (λ y. K.price y ≡ q) (x ∷ xs)) (K.price x) (price_range K xs) (inl refl)

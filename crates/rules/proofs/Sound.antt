@@ -7,8 +7,8 @@ use Rattle.rules.specs.Lines.{Sweep, swept, total, without}
 use Rattle.rules.specs.Book.{Book, Call, Outcome, accepts, buys, call, close, effect, enter, entered_with, fault, halt, is_buy, join, joins, open', opening_at, others, refused, rests, rests_at, resume, show, sought, step, unless_fault, withdraw}
 use Rattle.rules.specs.Laws.{Across, Before, Good, Pairwise, Sound, fresh, Lawful}
 use Rattle.rules.specs.declared.terms.BookFault.{BookFault}
-use Rattle.std.proofs.Common.{◌≡◌, ℕ, ◌+◌, ◌-◌, ◌≤◌, Bool, true, false, cond, not, ltb, leb, List, [], length, Some, None, Option, sym, refl, ap, ◌∙◌, subst, arith}
-use Rattle.std.specs.List.{AllByRecursion as All}
+use Rattle.std.proofs.Common.{◌≡◌, ℕ, ◌+◌, ◌≤◌, Bool, true, false, cond, not, ltb, leb, List, [], length, Some, None, Option, sym, refl, ap, ◌∙◌, subst, arith}
+use Rattle.std.specs.List.{AllByRecursion}
 use Rattle.std.proofs.ByRecursion.{All-weaker}
 use Rattle.std.proofs.lemmas.Bool.{cond_both, ltb-true}
 use Rattle.lines.specs.Kind.{Kind, Taking}
@@ -23,7 +23,7 @@ module _ {L : Type 0} (K : Kind L) where
 
   pub record OneSide (side : Side) (next : ℕ) (xs : List L) : Type 0 where
     pub ranked : Pairwise (Before K) xs
-    pub good : All (Good K side next) xs
+    pub good : AllByRecursion (Good K side next) xs
 
   pub record Held (s : Book L) : Type 0 where
     pub buyers : OneSide Buy s.next s.buyers
@@ -83,7 +83,7 @@ module _ {L : Type 0} {K : Kind L} (W : Lawful K) where
   other_side true s h = h.sellers
   other_side false s h = h.buyers
 
-  new_number : (b : Bool) (n : ℕ) (o : Order) (p : Price) (q : ℕ) (ys : List L) → All (Good K (side_by (not b)) n) ys → News (OtherNumber K) b (K.made o n p q) ys
+  new_number : (b : Bool) (n : ℕ) (o : Order) (p : Price) (q : ℕ) (ys : List L) → AllByRecursion (Good K (side_by (not b)) n) ys → News (OtherNumber K) b (K.made o n p q) ys
   new_number true n o p q ys a = All-weaker (Good K Sell n) (OtherNumber K (K.made o n p q)) (λ y g e. omega (arith, g.numbered, W.making.its_number o n p q)) ys a
   new_number false n o p q ys a = All-weaker (Good K Buy n) (λ y. OtherNumber K y (K.made o n p q)) (λ y g e. omega (arith, g.numbered, W.making.its_number o n p q)) ys a
 

@@ -1,6 +1,6 @@
 -- Lines that a call does not name stay as they were. Assumes nothing.
-use Rattle.std.proofs.Common.{◌≡◌, ℕ, ◌+◌, ◌<◌, Bool, true, false, cond, eqb, ltb, leb, ◌⊎◌, List, [], ◌∷◌, ◌++◌, map, Some, None, Result, sym, refl, ap, ◌∙◌, inl, inr, ⊎_elim, arith}
-use Rattle.std.specs.List.{AllByRecursion as All}
+use Rattle.std.proofs.Common.{◌≡◌, ℕ, ◌<◌, Bool, true, false, cond, eqb, ltb, leb, ◌⊎◌, List, [], ◌∷◌, ◌++◌, map, Some, None, Result, sym, refl, ap, ◌∙◌, inl, inr, ⊎_elim, arith}
+use Rattle.std.specs.List.{AllByRecursion}
 use Rattle.std.proofs.ByRecursion.{All-weaker, All-append}
 use Rattle.std.proofs.lemmas.Bool.{cases_Bool, cond_both, eqb-true, eq-eqb}
 use Rattle.prices.specs.declared.price.Price.{Price}
@@ -39,7 +39,7 @@ struck_named : (b : Bool) (k n : ℕ) (fs : List Fill) → Filled n fs → InTra
 struck_named true k n fs h = some_map (λ t. (t.buyer ≡ n) ⊎ (t.seller ≡ n)) (struck true k) fs (some_weaker (λ f. f.number ≡ n) (λ f. (k ≡ n) ⊎ (f.number ≡ n)) (λ f e. inr e) fs h)
 struck_named false k n fs h = some_map (λ t. (t.buyer ≡ n) ⊎ (t.seller ≡ n)) (struck false k) fs (some_weaker (λ f. f.number ≡ n) (λ f. (f.number ≡ n) ⊎ (k ≡ n)) (λ f e. inl e) fs h)
 
-filled_some : (n : ℕ) (fs : List Fill) → All (λ f. 0 < f.shares) fs → Filled n fs → 0 < filled n fs
+filled_some : (n : ℕ) (fs : List Fill) → AllByRecursion (λ f. 0 < f.shares) fs → Filled n fs → 0 < filled n fs
 filled_some n [] a h = absurd h
 filled_some n (f ∷ fs) a h =
     ⊎_elim
@@ -60,9 +60,9 @@ module _ {L : Type 0} (K : Kind L) where
   Stood N xs y = SomeOf (λ x. (y ≡ x) ⊎ (N (K.number x) × Part K x y)) xs
 
   abbrev Stays : (ℕ → Type 0) → List L → List L → Type 0
-  Stays N xs ys = All (λ x. N (K.number x) ⊎ SomeOf (λ y. y ≡ x) ys) xs
+  Stays N xs ys = AllByRecursion (λ x. N (K.number x) ⊎ SomeOf (λ y. y ≡ x) ys) xs
 
-  all_stand : (N : ℕ → Type 0) (xs : List L) → All (Stood N xs) xs
+  all_stand : (N : ℕ → Type 0) (xs : List L) → AllByRecursion (Stood N xs) xs
   all_stand N xs = each_some (λ y x. (y ≡ x) ⊎ (N (K.number x) × Part K x y)) (λ x. inl refl) xs
 
   all_stay : (N : ℕ → Type 0) (xs : List L) → Stays N xs xs
@@ -71,13 +71,13 @@ module _ {L : Type 0} (K : Kind L) where
   stays_more : (N : ℕ → Type 0) (z : L) (xs ys : List L) → Stays N xs ys → Stays N xs (z ∷ ys)
   stays_more N z xs ys h = All-weaker (λ x. N (K.number x) ⊎ SomeOf (λ y. y ≡ x) ys) (λ x. N (K.number x) ⊎ SomeOf (λ y. y ≡ x) (z ∷ ys)) (λ x k. ⊎_elim (λ a. inl a) (λ b. inr (inr b)) k) xs h
 
-  stood_more : (N : ℕ → Type 0) (z : L) (xs ys : List L) → All (Stood N xs) ys → All (Stood N (z ∷ xs)) ys
+  stood_more : (N : ℕ → Type 0) (z : L) (xs ys : List L) → AllByRecursion (Stood N xs) ys → AllByRecursion (Stood N (z ∷ xs)) ys
   stood_more N z xs ys h = All-weaker (Stood N xs) (Stood N (z ∷ xs)) (λ y k. inr k) ys h
 
   stays_weaker : (M N : ℕ → Type 0) → ((n : ℕ) → M n → N n) → (xs ys : List L) → Stays M xs ys → Stays N xs ys
   stays_weaker M N f xs ys h = All-weaker (λ x. M (K.number x) ⊎ SomeOf (λ y. y ≡ x) ys) (λ x. N (K.number x) ⊎ SomeOf (λ y. y ≡ x) ys) (λ x k. ⊎_elim (λ a. inl (f (K.number x) a)) (λ b. inr b) k) xs h
 
-  stood_weaker : (M N : ℕ → Type 0) → ((n : ℕ) → M n → N n) → (xs ys : List L) → All (Stood M xs) ys → All (Stood N xs) ys
+  stood_weaker : (M N : ℕ → Type 0) → ((n : ℕ) → M n → N n) → (xs ys : List L) → AllByRecursion (Stood M xs) ys → AllByRecursion (Stood N xs) ys
   stood_weaker M N f xs ys h =
       All-weaker (Stood M xs) (Stood N xs)
       (λ y k. some_weaker (λ x. (y ≡ x) ⊎ (M (K.number x) × Part K x y)) (λ x. (y ≡ x) ⊎ (N (K.number x) × Part K x y)) (λ x j. ⊎_elim (λ a. inl a) (λ b. inr (f (K.number x) b.0, b.1)) j) xs k) ys h
@@ -88,7 +88,7 @@ module _ {L : Type 0} (K : Kind L) where
   swept_stays (parts {q = q} {x = x} {xs = xs} h p l) = (inl (inl refl), stays_more (λ n. Filled n (fill K x q ∷ [])) (K.taken q x) xs xs (all_stay (λ n. Filled n (fill K x q ∷ [])) xs))
   swept_stays (uses {x = x} {xs = xs} {s = w} h p l r) = (inl (inl refl), stays_weaker (λ n. Filled n w.fills) (λ n. Filled n (fill K x (K.left x) ∷ w.fills)) (λ n k. inr k) xs w.rest (swept_stays r))
 
-  swept_stood : {e : ℕ → Bool} {q : ℕ} {xs : List L} {w : Sweep L} → Swept K e q xs w → All (Stood (λ n. Filled n w.fills) xs) w.rest
+  swept_stood : {e : ℕ → Bool} {q : ℕ} {xs : List L} {w : Sweep L} → Swept K e q xs w → AllByRecursion (Stood (λ n. Filled n w.fills) xs) w.rest
   swept_stood ends = tt
   swept_stood (stops {x = x} {xs = xs} h) = all_stand (λ n. Filled n []) (x ∷ xs)
   swept_stood (parts {q = q} {x = x} {xs = xs} h p l) =
@@ -105,7 +105,7 @@ module _ {L : Type 0} (K : Kind L) where
 
   -- new, or stood there
   abbrev Came : (ℕ → Type 0) → (ℕ → Type 0) → List L → List L → Type 0
-  Came E N xs ys = All (λ y. E (K.number y) ⊎ Stood N xs y) ys
+  Came E N xs ys = AllByRecursion (λ y. E (K.number y) ⊎ Stood N xs y) ys
 
   both_come : (E N : ℕ → Type 0) (bs ss bs' ss' : List L) → Came E N bs bs' → Came E N ss ss' → Came E N (bs ++ ss) (bs' ++ ss')
   both_come E N bs ss bs' ss' h k =
@@ -113,7 +113,7 @@ module _ {L : Type 0} (K : Kind L) where
       (All-weaker (λ y. E (K.number y) ⊎ Stood N bs y) (λ y. E (K.number y) ⊎ Stood N (bs ++ ss) y) (λ y j. ⊎_elim (λ a. inl a) (λ b. inr (some_left (λ x. (y ≡ x) ⊎ (N (K.number x) × Part K x y)) bs ss b)) j) bs' h)
       (All-weaker (λ y. E (K.number y) ⊎ Stood N ss y) (λ y. E (K.number y) ⊎ Stood N (bs ++ ss) y) (λ y j. ⊎_elim (λ a. inl a) (λ b. inr (some_right (λ x. (y ≡ x) ⊎ (N (K.number x) × Part K x y)) bs ss b)) j) ss' k)
 
-  came : (E N : ℕ → Type 0) (xs ys : List L) → All (Stood N xs) ys → Came E N xs ys
+  came : (E N : ℕ → Type 0) (xs ys : List L) → AllByRecursion (Stood N xs) ys → Came E N xs ys
   came E N xs ys h = All-weaker (Stood N xs) (λ y. E (K.number y) ⊎ Stood N xs y) (λ y k. inr k) ys h
 
   -- a line that joins its side
@@ -138,14 +138,14 @@ module _ {L : Type 0} (K : Kind L) where
       (λ t. (inl (eqb-true m (K.number x) t), without_stays m xs))
       (λ _. (inr (inl refl), stays_more (λ n. m ≡ n) x xs (without K m xs) (without_stays m xs)))
 
-  without_stood : (N : ℕ → Type 0) (m : ℕ) (xs : List L) → All (Stood N xs) (without K m xs)
+  without_stood : (N : ℕ → Type 0) (m : ℕ) (xs : List L) → AllByRecursion (Stood N xs) (without K m xs)
   without_stood N m xs = all_without K (Stood N xs) m xs (all_stand N xs)
 
 module _ {L : Type 0} {K : Kind L} (W : Lawful K) where
   abbrev BookStays : Book L → Asked → Outcome L → Type 0
   BookStays s a r = LinesStay K (s.buyers ++ s.sellers) a r.answer r.trades (r.after.buyers ++ r.after.sellers)
 
-  entry_stays : (b : Bool) (N E : ℕ → Type 0) (bs ss own-b own-s rest : List L) → Stays K N bs own-b → Stays K N ss own-s → Came K E N bs own-b → Came K E N ss own-s → Stays K N (cond b ss bs) rest → All (Stood K N (cond b ss bs)) rest →
+  entry_stays : (b : Bool) (N E : ℕ → Type 0) (bs ss own-b own-s rest : List L) → Stays K N bs own-b → Stays K N ss own-s → Came K E N bs own-b → Came K E N ss own-s → Stays K N (cond b ss bs) rest → AllByRecursion (Stood K N (cond b ss bs)) rest →
       Stays K N (bs ++ ss) (cond b own-b rest ++ cond b rest own-s) × Came K E N (bs ++ ss) (cond b own-b rest ++ cond b rest own-s)
   entry_stays true N E bs ss own-b own-s rest h k u v x y = (both_stay K N bs ss own-b rest h x, both_come K E N bs ss own-b rest u (came K E N ss rest y))
   entry_stays false N E bs ss own-b own-s rest h k u v x y = (both_stay K N bs ss rest own-s x k, both_come K E N bs ss rest own-s (came K E N bs rest y) v)
@@ -177,7 +177,7 @@ module _ {L : Type 0} {K : Kind L} (W : Lawful K) where
     come = came K (λ n. number_of r ≡ Some n) (λ n. InTrade n ts) (s.buyers ++ s.sellers) (s.buyers ++ s.sellers) (all_stand K (λ n. InTrade n ts) (s.buyers ++ s.sellers));
   }
 
-  pub all_left_some : (b : Side) (n : ℕ) (xs : List L) → All (Good K b n) xs → All (λ x. 0 < K.left x) xs
+  pub all_left_some : (b : Side) (n : ℕ) (xs : List L) → AllByRecursion (Good K b n) xs → AllByRecursion (λ x. 0 < K.left x) xs
   all_left_some b n xs a = All-weaker (Good K b n) (λ x. 0 < K.left x) (λ x g. g.some_left) xs a
 
   opening_stays : (s : Book L) (i : ℕ) (ts : List Tape) → Held K s → BookStays s (opening i) (effect K s (call_of (opening i) ts))
@@ -201,7 +201,7 @@ module _ {L : Type 0} {K : Kind L} (W : Lawful K) where
             (stood_both N s.buyers s.sellers b.rest o.rest (stood_weaker K (λ k. Filled k b.fills) N f s.buyers b.rest (swept_stood K rb)) (stood_weaker K (λ k. Filled k o.fills) N g s.sellers o.rest (swept_stood K ro)));
       }
     where
-      stood_both : (N : ℕ → Type 0) (bs ss bs' ss' : List L) → All (Stood K N bs) bs' → All (Stood K N ss) ss' → All (Stood K N (bs ++ ss)) (bs' ++ ss')
+      stood_both : (N : ℕ → Type 0) (bs ss bs' ss' : List L) → AllByRecursion (Stood K N bs) bs' → AllByRecursion (Stood K N ss) ss' → AllByRecursion (Stood K N (bs ++ ss)) (bs' ++ ss')
       stood_both N bs ss bs' ss' h k =
           All-append (Stood K N (bs ++ ss)) bs' ss'
           (All-weaker (Stood K N bs) (Stood K N (bs ++ ss)) (λ y j. some_left (λ x. (y ≡ x) ⊎ (N (K.number x) × Part K x y)) bs ss j) bs' h)

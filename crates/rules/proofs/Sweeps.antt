@@ -1,8 +1,8 @@
 -- What a sweep does, step by step, and what follows. Assumes nothing.
 use Rattle.rules.specs.Lines.{Fill, Sweep, all_left, fill, only, parted, resting, shares, sum_of, swept, total, units, untouched, used}
 use Rattle.rules.specs.Laws.{Pairwise}
-use Rattle.std.proofs.Common.{◌≡◌, ℕ, ◌+◌, ◌-◌, ◌<◌, ◌≤◌, min, Bool, true, false, ◌&&◌, eqb, ltb, leb, ◌⊎◌, List, [], ◌∷◌, length, sym, refl, ap, ◌∙◌, ⊎_elim, arith}
-use Rattle.std.specs.List.{AllByRecursion as All}
+use Rattle.std.proofs.Common.{◌≡◌, ℕ, ◌+◌, ◌-◌, ◌<◌, ◌≤◌, min, Bool, true, false, ◌&&◌, eqb, ltb, leb, List, [], ◌∷◌, length, sym, refl, ap, ◌∙◌, ⊎_elim, arith}
+use Rattle.std.specs.List.{AllByRecursion}
 use Rattle.std.proofs.ByRecursion.{All-weaker}
 use Rattle.std.proofs.lemmas.Bool.{false≢true, true≢false, cases_Bool, cond_both, and_parts, leb-true, leb-false, ltb-true, ltb-false}
 use Rattle.lines.specs.Kind.{Kind, Taking}
@@ -62,7 +62,7 @@ module _ {L : Type 0} {K : Kind L} {e : ℕ → Bool} where
   traded_and_left T (uses h p l r) = omega (arith, traded_and_left T r)
 
   -- what holds of each line, and is kept when some of its shares are taken, holds of each that is left
-  pub kept_all : (P : L → Type 0) → ((q : ℕ) (x : L) → q < K.left x → P x → P (K.taken q x)) → {q : ℕ} {xs : List L} {s : Sweep L} → Swept K e q xs s → All P xs → All P s.rest
+  pub kept_all : (P : L → Type 0) → ((q : ℕ) (x : L) → q < K.left x → P x → P (K.taken q x)) → {q : ℕ} {xs : List L} {s : Sweep L} → Swept K e q xs s → AllByRecursion P xs → AllByRecursion P s.rest
   kept_all P f ends a = tt
   kept_all P f (stops h) a = a
   kept_all P f (parts {q = q} {x = x} h p l) a = (f q x l a.0, a.1)
@@ -99,14 +99,14 @@ module _ {L : Type 0} {K : Kind L} {e : ℕ → Bool} where
   no_fills (parts h p l) z = absurd (omega arith)
   no_fills (uses h p l r) z = absurd (omega arith)
 
-  pub fills_some : {q : ℕ} {xs : List L} {s : Sweep L} → Swept K e q xs s → All (λ x. 0 < K.left x) xs → All (λ f. 0 < f.shares) s.fills
+  pub fills_some : {q : ℕ} {xs : List L} {s : Sweep L} → Swept K e q xs s → AllByRecursion (λ x. 0 < K.left x) xs → AllByRecursion (λ f. 0 < f.shares) s.fills
   fills_some ends a = tt
   fills_some (stops h) a = tt
   fills_some (parts h p l) a = (p, tt)
   fills_some (uses h p l r) a = (a.0, fills_some r a.1)
 
   -- each fill is of a line that passes
-  pub fills_of : (P : Fill → Type 0) {q : ℕ} {xs : List L} {s : Sweep L} → Swept K e q xs s → All (λ x. (n : ℕ) → e (units K x) ≡ true → P (fill K x n)) xs → All P s.fills
+  pub fills_of : (P : Fill → Type 0) {q : ℕ} {xs : List L} {s : Sweep L} → Swept K e q xs s → AllByRecursion (λ x. (n : ℕ) → e (units K x) ≡ true → P (fill K x n)) xs → AllByRecursion P s.fills
   fills_of P ends a = tt
   fills_of P (stops h) a = tt
   fills_of P (parts {q = q} h p l) a = (a.0 q h, tt)
@@ -117,10 +117,10 @@ module _ {L : Type 0} (K : Kind L) (d : ℕ → Bool) where
   abbrev pub Falls : L → L → Type 0
   Falls x y = d (units K y) ≡ true → d (units K x) ≡ true
 
-  pub none_pass : (x : L) → d (units K x) ≡ false → (xs : List L) → All (Falls x) xs → All (λ y. d (units K y) ≡ false) xs
+  pub none_pass : (x : L) → d (units K x) ≡ false → (xs : List L) → AllByRecursion (Falls x) xs → AllByRecursion (λ y. d (units K y) ≡ false) xs
   none_pass x f xs a = All-weaker (Falls x) (λ y. d (units K y) ≡ false) (λ y k. ⊎_elim (λ t. absurd (true≢false (sym (k t) ∙ f))) (λ g. g) (cases_Bool (d (units K y)))) xs a
 
-  pub none_shares : (xs : List L) → All (λ y. d (units K y) ≡ false) xs → shares K d xs ≡ 0
+  pub none_shares : (xs : List L) → AllByRecursion (λ y. d (units K y) ≡ false) xs → shares K d xs ≡ 0
   none_shares [] a = refl
   none_shares (x ∷ xs) a = omega (arith, only_false (d (units K x)) (K.left x) a.0, none_shares xs a.1)
 
@@ -137,7 +137,7 @@ module _ {L : Type 0} {K : Kind L} {e : ℕ → Bool} where
   trades_all (uses {x = x} h p l r) a = omega (arith, only_true (e (units K x)) (K.left x) h, trades_all r a.1)
 
   -- where it still wants, nothing that is left passes
-  pub wants_more : {q : ℕ} {xs : List L} {s : Sweep L} → Swept K e q xs s → Pairwise (Falls K e) xs → 0 < s.wanting → All (λ y. e (units K y) ≡ false) s.rest
+  pub wants_more : {q : ℕ} {xs : List L} {s : Sweep L} → Swept K e q xs s → Pairwise (Falls K e) xs → 0 < s.wanting → AllByRecursion (λ y. e (units K y) ≡ false) s.rest
   wants_more ends a w = tt
   wants_more (stops {x = x} {xs = xs} h) a w =
       let f : e (units K x) ≡ false = ⊎_elim (λ t. absurd (let z = h t in omega arith)) (λ g. g) (cases_Bool (e (units K x))) in

@@ -7,7 +7,7 @@ use Rattle.rules.specs.Book.{any_price, dealt, fills_kind, paired}
 use Rattle.rules.specs.Laws.{Before, Pairwise, Lawful}
 use Rattle.std.proofs.Common.{◌≡◌, ℕ, ◌+◌, ◌-◌, ◌≤◌, Bool, true, eqb, List, [], ◌∷◌, ◌++◌, map, sym, refl, ap, ◌∙◌, subst, arith}
 use lib.Seq.{append_snoc}
-use Rattle.std.specs.List.{AllByRecursion as All}
+use Rattle.std.specs.List.{AllByRecursion}
 use Rattle.std.proofs.ByRecursion.{All-weaker, All-append, All-push}
 use Rattle.std.proofs.lemmas.Bool.{true≢false, eq-eqb}
 use Rattle.lines.specs.Kind.{Kind}
@@ -19,18 +19,18 @@ use Rattle.rules.proofs.Sweeps.{Swept, ends, stops, parts, uses, sweep}
 module _ {L : Type 0} (K : Kind L) where
   -- every line that precedes a line with the number n has no shares left
   abbrev pub Ahead : List L → (ℕ → ℕ) → ℕ → Type 0
-  Ahead xs gone n = All (λ x. All (λ y. n ≡ K.number x → K.precedes y x ≡ true → K.left y ≤ gone (K.number y)) xs) xs
+  Ahead xs gone n = AllByRecursion (λ x. AllByRecursion (λ y. n ≡ K.number x → K.precedes y x ≡ true → K.left y ≤ gone (K.number y)) xs) xs
 
   abbrev pub Turned : (Trade → ℕ) → List L → (ℕ → ℕ) → List Trade → Type 0
   Turned party xs gone [] = Unit {0}
   Turned party xs gone (t ∷ ts) = Ahead xs gone (party t) × Turned party xs (λ n. gone n + only (eqb n (party t)) t.quantity) ts
 
   -- with the line that each trade takes from
-  pub turned_named : (party : Trade → ℕ) (P : Trade → L → Type 0) (xs : List L) (gone : ℕ → ℕ) (ts : List Trade) → Turned party xs gone ts → All (λ t. SomeOf (λ x. (K.number x ≡ party t) × P t x) xs) ts → InTurn K party P xs gone ts
+  pub turned_named : (party : Trade → ℕ) (P : Trade → L → Type 0) (xs : List L) (gone : ℕ → ℕ) (ts : List Trade) → Turned party xs gone ts → AllByRecursion (λ t. SomeOf (λ x. (K.number x ≡ party t) × P t x) xs) ts → InTurn K party P xs gone ts
   turned_named party P xs gone [] h a = tt
   turned_named party P xs gone (t ∷ ts) h a = (
-    some_with (λ x. All (λ y. party t ≡ K.number x → K.precedes y x ≡ true → K.left y ≤ gone (K.number y)) xs) (λ x. (K.number x ≡ party t) × P t x)
-        (λ x. (K.number x ≡ party t) × P t x × All (λ y. K.precedes y x ≡ true → K.left y ≤ gone (K.number y)) xs)
+    some_with (λ x. AllByRecursion (λ y. party t ≡ K.number x → K.precedes y x ≡ true → K.left y ≤ gone (K.number y)) xs) (λ x. (K.number x ≡ party t) × P t x)
+        (λ x. (K.number x ≡ party t) × P t x × AllByRecursion (λ y. K.precedes y x ≡ true → K.left y ≤ gone (K.number y)) xs)
         (λ x k j. (j.0, j.1, All-weaker (λ y. party t ≡ K.number x → K.precedes y x ≡ true → K.left y ≤ gone (K.number y)) (λ y. K.precedes y x ≡ true → K.left y ≤ gone (K.number y)) (λ y f. f (sym j.0)) xs k)) xs h.0 a.0,
     turned_named party P xs (λ n. gone n + only (eqb n (party t)) t.quantity) ts h.1 a.1,
   )
@@ -43,7 +43,7 @@ module _ {L : Type 0} (K : Kind L) where
   -- with more gone it is still so
   pub turn_later : (xs : List L) (d e : ℕ → ℕ) (n : ℕ) → ((k : ℕ) → d k ≤ e k) → Ahead xs d n → Ahead xs e n
   turn_later xs d e n le t =
-      All-weaker (λ x. All (λ y. n ≡ K.number x → K.precedes y x ≡ true → K.left y ≤ d (K.number y)) xs) (λ x. All (λ y. n ≡ K.number x → K.precedes y x ≡ true → K.left y ≤ e (K.number y)) xs)
+      All-weaker (λ x. AllByRecursion (λ y. n ≡ K.number x → K.precedes y x ≡ true → K.left y ≤ d (K.number y)) xs) (λ x. AllByRecursion (λ y. n ≡ K.number x → K.precedes y x ≡ true → K.left y ≤ e (K.number y)) xs)
       (λ x a. All-weaker (λ y. n ≡ K.number x → K.precedes y x ≡ true → K.left y ≤ d (K.number y)) (λ y. n ≡ K.number x → K.precedes y x ≡ true → K.left y ≤ e (K.number y)) (λ y f u v. omega (arith, f u v, le (K.number y))) xs a)
       xs t
 
@@ -102,11 +102,11 @@ module _ {L : Type 0} (K : Kind L) where
 
 module _ {L : Type 0} {K : Kind L} (W : Lawful K) where
   -- lines with one number are one
-  pub same_line : (xs : List L) → Pairwise (Before K) xs → All (λ x. All (λ y. K.number x ≡ K.number y → x ≡ y) xs) xs
+  pub same_line : (xs : List L) → Pairwise (Before K) xs → AllByRecursion (λ x. AllByRecursion (λ y. K.number x ≡ K.number y → x ≡ y) xs) xs
   same_line xs r = all_pairs (λ x y. K.number x ≡ K.number y → x ≡ y) (λ x _. refl) xs (pairwise_weaker (λ _. Unit {0}) (Before K) (λ x y. (K.number x ≡ K.number y → x ≡ y) × (K.number y ≡ K.number x → y ≡ x)) (λ x y _ _ b. (λ e. absurd (b.1 e), λ e. absurd (b.1 (sym e)))) xs (all_any (λ _. Unit {0}) (λ _. tt) xs) r)
 
   -- what precedes a line stands before it
-  ahead : (gone : ℕ → ℕ) (pre : List L) (x : L) (xs : List L) → Pairwise (Before K) (pre ++ x ∷ xs) → All (λ y. K.left y ≤ gone (K.number y)) pre → All (λ y. K.precedes y x ≡ true → K.left y ≤ gone (K.number y)) (pre ++ x ∷ xs)
+  ahead : (gone : ℕ → ℕ) (pre : List L) (x : L) (xs : List L) → Pairwise (Before K) (pre ++ x ∷ xs) → AllByRecursion (λ y. K.left y ≤ gone (K.number y)) pre → AllByRecursion (λ y. K.precedes y x ≡ true → K.left y ≤ gone (K.number y)) (pre ++ x ∷ xs)
   ahead gone pre x xs r a =
       All-append (λ y. K.precedes y x ≡ true → K.left y ≤ gone (K.number y)) pre (x ∷ xs)
       (All-weaker (λ y. K.left y ≤ gone (K.number y)) (λ y. K.precedes y x ≡ true → K.left y ≤ gone (K.number y)) (λ y l _. l) pre a) (
@@ -114,15 +114,15 @@ module _ {L : Type 0} {K : Kind L} (W : Lawful K) where
         All-weaker (Before K x) (λ y. K.precedes y x ≡ true → K.left y ≤ gone (K.number y)) (λ y b p. absurd (one_way W x y b.0 p)) xs (pairwise_back (Before K) pre (x ∷ xs) r).0,
       )
 
-  turn_at : (gone : ℕ → ℕ) (all pre : List L) (x : L) (xs : List L) → pre ++ x ∷ xs ≡ all → Pairwise (Before K) all → All (λ y. K.left y ≤ gone (K.number y)) pre → Ahead K all gone (K.number x)
+  turn_at : (gone : ℕ → ℕ) (all pre : List L) (x : L) (xs : List L) → pre ++ x ∷ xs ≡ all → Pairwise (Before K) all → AllByRecursion (λ y. K.left y ≤ gone (K.number y)) pre → Ahead K all gone (K.number x)
   turn_at gone all pre x xs e r a =
-      let u : All (λ y. K.number x ≡ K.number y → x ≡ y) all = all_at (λ z. All (λ y. K.number z ≡ K.number y → z ≡ y) all) pre x xs (subst (λ (zs : List L). All (λ z. All (λ y. K.number z ≡ K.number y → z ≡ y) all) zs) (sym e) (same_line all r)) in
-      let b : All (λ y. K.precedes y x ≡ true → K.left y ≤ gone (K.number y)) all = subst (λ (zs : List L). All (λ y. K.precedes y x ≡ true → K.left y ≤ gone (K.number y)) zs) e (ahead gone pre x xs (subst (Pairwise (Before K)) (sym e) r) a) in
-      All-weaker (λ z. K.number x ≡ K.number z → x ≡ z) (λ z. All (λ y. K.number x ≡ K.number z → K.precedes y z ≡ true → K.left y ≤ gone (K.number y)) all)
+      let u : AllByRecursion (λ y. K.number x ≡ K.number y → x ≡ y) all = all_at (λ z. AllByRecursion (λ y. K.number z ≡ K.number y → z ≡ y) all) pre x xs (subst (λ (zs : List L). AllByRecursion (λ z. AllByRecursion (λ y. K.number z ≡ K.number y → z ≡ y) all) zs) (sym e) (same_line all r)) in
+      let b : AllByRecursion (λ y. K.precedes y x ≡ true → K.left y ≤ gone (K.number y)) all = subst (λ (zs : List L). AllByRecursion (λ y. K.precedes y x ≡ true → K.left y ≤ gone (K.number y)) zs) e (ahead gone pre x xs (subst (Pairwise (Before K)) (sym e) r) a) in
+      All-weaker (λ z. K.number x ≡ K.number z → x ≡ z) (λ z. AllByRecursion (λ y. K.number x ≡ K.number z → K.precedes y z ≡ true → K.left y ≤ gone (K.number y)) all)
       (λ z k. All-weaker (λ y. K.precedes y x ≡ true → K.left y ≤ gone (K.number y)) (λ y. K.number x ≡ K.number z → K.precedes y z ≡ true → K.left y ≤ gone (K.number y)) (λ y f n p. f (subst (λ (v : L). K.precedes y v ≡ true) (sym (k n)) p)) all b)
       all u
 
-  pub sweep_turns : {e : ℕ → Bool} (gone : ℕ → ℕ) (all pre : List L) {q : ℕ} {xs : List L} {s : Sweep L} → Swept K e q xs s → pre ++ xs ≡ all → Pairwise (Before K) all → All (λ y. K.left y ≤ gone (K.number y)) pre → Turns K all gone s.fills
+  pub sweep_turns : {e : ℕ → Bool} (gone : ℕ → ℕ) (all pre : List L) {q : ℕ} {xs : List L} {s : Sweep L} → Swept K e q xs s → pre ++ xs ≡ all → Pairwise (Before K) all → AllByRecursion (λ y. K.left y ≤ gone (K.number y)) pre → Turns K all gone s.fills
   sweep_turns gone all pre ends e r a = tt
   sweep_turns gone all pre (stops h) e r a = tt
   sweep_turns gone all pre (parts {x = x} {xs = xs} h p l) e r a = (turn_at gone all pre x xs e r a, tt)

@@ -1,6 +1,6 @@
 -- What a call may do, event by event. Assumes nothing.
 use Rattle.std.specs.Prelude.{◌≡◌, ℕ, ◌+◌, ◌<◌, ◌≤◌, min, Bool, true, false, cond, ◌⊎◌, List, [], ◌∷◌, ◌++◌, length, IfSome, Some, None, Ok, Err, Option, Result, MatchOption, ◌==◌, nat_lt}
-use Rattle.std.specs.List.{AllByRecursion as All}
+use Rattle.std.specs.List.{AllByRecursion}
 use Rattle.prices.specs.declared.price.Price.{Price}
 use Rattle.records.specs.declared.letters.Qualifier.{Qualifier}
 use Rattle.records.specs.declared.letters.Qualifier.TheVariants.{Unqualified, FillOrKill, ImmediateOrCancel}
@@ -76,7 +76,7 @@ number_of (Ok (ended p l)) = None
 
 -- every trade in which n is the buyer, or the seller, has a price of P
 abbrev pub TradesAt : Bool → ℕ → (ℕ → Type 0) → List Trade → Type 0
-TradesAt b n P ts = All (λ t. cond b t.buyer t.seller ≡ n → P t.price.units) ts
+TradesAt b n P ts = AllByRecursion (λ t. cond b t.buyer t.seller ≡ n → P t.price.units) ts
 
 -- LAW: no trade of an order is beyond its limit when it is entered, nor later beyond the price at which its rest came to rest
 abbrev pub LimitsKept : {L : Type 0} → List (Event L) → Type 0
@@ -84,7 +84,7 @@ LimitsKept [] = Unit {0}
 LimitsKept (e ∷ es) =
     MatchOption (order_of e.asked) (Unit {0}) (λ o. MatchOption (number_of e.answer) (Unit {0}) (λ n.
     TradesAt (buys o) n (λ p. accepts o p ≡ true) e.trades
-    × All (λ later. TradesAt (buys o) n (RestAccepts (buys o) o.limit e.trades) later.trades) es))
+    × AllByRecursion (λ later. TradesAt (buys o) n (RestAccepts (buys o) o.limit e.trades) later.trades) es))
     × LimitsKept es
 
 -- what a call names: the lines in its trades, that which it withdraws, all lines if it closes
@@ -116,7 +116,7 @@ module _ {L : Type 0} (K : Kind L) where
 
   -- a line of xs has the number n and keeps to P, and every line that precedes it has no shares left; gone says what each number has traded
   abbrev pub TurnOf : List L → (ℕ → ℕ) → ℕ → (L → Type 0) → Type 0
-  TurnOf xs gone n P = SomeOf (λ x. (K.number x ≡ n) × P x × All (λ y. K.precedes y x ≡ true → K.left y ≤ gone (K.number y)) xs) xs
+  TurnOf xs gone n P = SomeOf (λ x. (K.number x ≡ n) × P x × AllByRecursion (λ y. K.precedes y x ≡ true → K.left y ≤ gone (K.number y)) xs) xs
 
   -- trade by trade: each takes from a line that keeps to P, and from none while another of its side that precedes it has shares left
   abbrev pub InTurn : (Trade → ℕ) → (Trade → L → Type 0) → List L → (ℕ → ℕ) → List Trade → Type 0
@@ -134,9 +134,9 @@ module _ {L : Type 0} (K : Kind L) where
     pub due : traded ≡ due_to o.qualifier o.quantity (eligible K s o)
     pub at_least : o.minimum ≤ traded
     -- each trade is the order's own, and takes in turn from a line of the other side at the line's price, which the order accepts
-    pub own : All (λ t. cond (buys o) t.buyer t.seller ≡ n) ts
+    pub own : AllByRecursion (λ t. cond (buys o) t.buyer t.seller ≡ n) ts
     pub in_turn : InTurn (λ t. cond (buys o) t.seller t.buyer) (λ t x. K.price x ≡ t.price) (others K s o) (λ n. 0) ts
-    pub within : All (λ t. accepts o t.price.units ≡ true) ts
+    pub within : AllByRecursion (λ t. accepts o t.price.units ≡ true) ts
     -- what is left lapses if the order has a qualifier, else rests, at its limit or at its last trade's price
     pub qualified : is_unqualified o.qualifier ≡ false → resting' ≡ 0
     pub unqualified : is_unqualified o.qualifier ≡ true → lapsed ≡ 0
@@ -149,7 +149,7 @@ module _ {L : Type 0} (K : Kind L) where
     pub its_volume : volume_of K s p.units ≡ v
     -- no number, taken as a price, would have moved more
     pub greatest : (q : ℕ) → volume_of K s q ≤ v
-    pub priced : All (λ t. t.price ≡ p) ts
+    pub priced : AllByRecursion (λ t. t.price ≡ p) ts
     pub buyers_in_turn : InTurn (λ t. t.buyer) (λ t x. t.price.units ≤ units K x) s.buyers (λ n. 0) ts
     pub sellers_in_turn : InTurn (λ t. t.seller) (λ t x. units K x ≤ t.price.units) s.sellers (λ n. 0) ts
     pub runs : s'.status ≡ Running
@@ -189,9 +189,9 @@ module _ {L : Type 0} (K : Kind L) where
   -- a level for each price of the book and for no other, the highest first, with the sums of its price
   pub record FairSheet (s : Book L) (ls : List Level) : Type 0 where
     pub highest_first : Pairwise (λ a b. b.price.units < a.price.units) ls
-    pub each_price : All (λ x. SomeOf (λ l. l.price.units ≡ units K x) ls) (s.buyers ++ s.sellers)
-    pub no_other : All (λ l. SomeOf (λ x. K.price x ≡ l.price) (s.buyers ++ s.sellers)) ls
-    pub summed : All (λ l. (l.demanded ≡ demand K s.buyers l.price.units) × (l.supplied ≡ supply K s.sellers l.price.units)) ls
+    pub each_price : AllByRecursion (λ x. SomeOf (λ l. l.price.units ≡ units K x) ls) (s.buyers ++ s.sellers)
+    pub no_other : AllByRecursion (λ l. SomeOf (λ x. K.price x ≡ l.price) (s.buyers ++ s.sellers)) ls
+    pub summed : AllByRecursion (λ l. (l.demanded ≡ demand K s.buyers l.price.units) × (l.supplied ≡ supply K s.sellers l.price.units)) ls
 
   abbrev pub FairShown : Book L → Asked → List Level → List Trade → Book L → Type 0
   FairShown s (joining o plain) r ts s' = ⊥
@@ -258,8 +258,8 @@ module _ {L : Type 0} (K : Kind L) where
 
   -- lines that are not named stay as they were; what stands in the book afterwards is new, or stood there, or is left of a line that traded
   pub record LinesStay (xs : List L) (a : Asked) (r : Result Answer BookFault) (ts : List Trade) (ys : List L) : Type 0 where
-    pub stay : All (λ x. Named a ts (K.number x) ⊎ SomeOf (λ y. y ≡ x) ys) xs
-    pub come : All (λ y. (number_of r ≡ Some (K.number y)) ⊎ SomeOf (λ x. (y ≡ x) ⊎ (InTrade (K.number x) ts × Part x y)) xs) ys
+    pub stay : AllByRecursion (λ x. Named a ts (K.number x) ⊎ SomeOf (λ y. y ≡ x) ys) xs
+    pub come : AllByRecursion (λ y. (number_of r ≡ Some (K.number y)) ⊎ SomeOf (λ x. (y ≡ x) ⊎ (InTrade (K.number x) ts × Part x y)) xs) ys
 
   pub record LawfulEvent (e : Event L) : Type 0 where
     pub sound : Sound K e.after.book
@@ -269,7 +269,7 @@ module _ {L : Type 0} (K : Kind L) where
     -- refused with the first reason there is, else accepted
     pub judged : FirstTold (Reason K e.before.book (call_of e.asked e.before.tapes)) in_order (told_by e.answer)
     pub room : length e.trades ≤ free_on (tape_of e.asked) e.before.tapes
-    pub some_shares : All (λ t. 0 < t.quantity) e.trades
+    pub some_shares : AllByRecursion (λ t. 0 < t.quantity) e.trades
     pub remembered : e.after.book.last ≡ last_of e.trades e.before.book.last
     pub handed_back : e.lapsing ≡ handed_back_by e.answer e.before.book
     pub lines_stay : LinesStay (e.before.book.buyers ++ e.before.book.sellers) e.asked e.answer e.trades (e.after.book.buyers ++ e.after.book.sellers)
@@ -286,7 +286,7 @@ module _ {L : Type 0} (K : Kind L) where
       IfSome (market K (λ _. None) cs i) (λ d. (Sound K d.book × Uncrossed K d.book.status d.book) × EligibleFirst d.book)
 
   abbrev pub EveryEventIsLawful : Type 0
-  EveryEventIsLawful = (cs : List (ℕ × Command)) (i : ℕ) → All LawfulEvent (history K (λ _. None) cs i)
+  EveryEventIsLawful = (cs : List (ℕ × Command)) (i : ℕ) → AllByRecursion LawfulEvent (history K (λ _. None) cs i)
 
   abbrev pub LimitsAreKept : Type 0
   LimitsAreKept = (cs : List (ℕ × Command)) (i : ℕ) → LimitsKept (history K (λ _. None) cs i)

@@ -1,6 +1,6 @@
 -- What holds of every book that is reached. Assumes nothing.
 use Rattle.std.specs.Prelude.{◌≡◌, ℕ, ◌+◌, ◌<◌, ◌≤◌, min, true, List, [], ◌∷◌, ◌++◌, length, None, ◌≢◌}
-use Rattle.std.specs.List.{AllByRecursion as All}
+use Rattle.std.specs.List.{AllByRecursion}
 use Rattle.prices.specs.declared.price.Price.{Price}
 use Rattle.records.specs.declared.letters.Side.{Side}
 use Rattle.records.specs.declared.letters.Side.TheVariants.{Buy, Sell}
@@ -21,10 +21,10 @@ pub record Lawful {L : Type 0} (K : Kind L) : Type 0 where
 -- R holds between each element and each later one; between each of xs and each of ys
 abbrev pub Pairwise : {X : Type 0} → (X → X → Type 0) → List X → Type 0
 Pairwise R [] = Unit {0}
-Pairwise R (x ∷ xs) = All (R x) xs × Pairwise R xs
+Pairwise R (x ∷ xs) = AllByRecursion (R x) xs × Pairwise R xs
 
 abbrev pub Across : {X : Type 0} → (X → X → Type 0) → List X → List X → Type 0
-Across R xs ys = All (λ x. All (R x) ys) xs
+Across R xs ys = AllByRecursion (λ x. AllByRecursion (R x) ys) xs
 
 module _ {L : Type 0} (K : Kind L) where
   -- rank, and numbers apart
@@ -39,8 +39,8 @@ module _ {L : Type 0} (K : Kind L) where
   -- the lines stand in the order of their rank, with numbers of their own below the next, buyers first, each with shares left, and fit their places
   pub record Sound (s : Book L) : Type 0 where
     pub ranked : Pairwise Before (s.buyers ++ s.sellers)
-    pub of_buyers : All (Good Buy s.next) s.buyers
-    pub of_sellers : All (Good Sell s.next) s.sellers
+    pub of_buyers : AllByRecursion (Good Buy s.next) s.buyers
+    pub of_sellers : AllByRecursion (Good Sell s.next) s.sellers
     pub fits : length s.buyers + length s.sellers ≤ s.places
 
   -- every resting buyer's price is below every resting seller's

@@ -1,6 +1,6 @@
 -- The opening price: the five tests as comparisons between prices, and as a choice among them. Assumes nothing.
 use Rattle.std.specs.Prelude.{◌≡◌, ℕ, ◌+◌, ◌-◌, ◌<◌, ◌≤◌, min, max, Bool, cond, ◌&&◌, ◌||◌, ltb, List, [], ◌∷◌, filter, ◌==◌, nat_lt}
-use Rattle.std.specs.List.{ContainsAt as Has, AllByRecursion as All}
+use Rattle.std.specs.List.{ContainsAt, AllByRecursion}
 
 -- how far two numbers lie apart
 abbrev pub apart : ℕ → ℕ → ℕ
@@ -39,10 +39,10 @@ module _ (demand supply : ℕ → ℕ) (reference : ℕ) where
 
   -- of those even with p, the highest with buyers in excess, and the lowest with sellers in excess
   abbrev pub HighestBought : List ℕ → ℕ → ℕ → Type 0
-  HighestBought ps p h = Has ps h × Even h p × (supply h < demand h) × All (λ q. Even q p → supply q < demand q → q ≤ h) ps
+  HighestBought ps p h = ContainsAt ps h × Even h p × (supply h < demand h) × AllByRecursion (λ q. Even q p → supply q < demand q → q ≤ h) ps
 
   abbrev pub LowestSold : List ℕ → ℕ → ℕ → Type 0
-  LowestSold ps p l = Has ps l × Even l p × (demand l < supply l) × All (λ q. Even q p → demand q < supply q → l ≤ q) ps
+  LowestSold ps p l = ContainsAt ps l × Even l p × (demand l < supply l) × AllByRecursion (λ q. Even q p → demand q < supply q → l ≤ q) ps
 
   -- p is the one of h and l that is nearer to the reference, and at equal distance the higher
   abbrev pub Nearer : ℕ → ℕ → ℕ → Type 0
@@ -50,18 +50,18 @@ module _ (demand supply : ℕ → ℕ) (reference : ℕ) where
 
   -- p passes the five tests against the prices ps
   pub record Passes (ps : List ℕ) (p : ℕ) : Type 0 where
-    pub listed : Has ps p
+    pub listed : ContainsAt ps p
     -- 1: no price has more volume
-    pub most_volume : All (λ q. volume_at q ≤ volume_at p) ps
+    pub most_volume : AllByRecursion (λ q. volume_at q ≤ volume_at p) ps
     -- 2: of those with as much, none has less imbalance
-    pub least_imbalance : All (λ q. volume_at q ≡ volume_at p → imbalance_at p ≤ imbalance_at q) ps
+    pub least_imbalance : AllByRecursion (λ q. volume_at q ≡ volume_at p → imbalance_at p ≤ imbalance_at q) ps
     -- 3: where buyers exceed at all that remain, none is higher; where sellers do, none is lower
-    pub all_bought : All (λ q. Even q p → supply q < demand q) ps → All (λ q. Even q p → q ≤ p) ps
-    pub all_sold : All (λ q. Even q p → demand q < supply q) ps → All (λ q. Even q p → p ≤ q) ps
+    pub all_bought : AllByRecursion (λ q. Even q p → supply q < demand q) ps → AllByRecursion (λ q. Even q p → q ≤ p) ps
+    pub all_sold : AllByRecursion (λ q. Even q p → demand q < supply q) ps → AllByRecursion (λ q. Even q p → p ≤ q) ps
     -- 4: where both signs remain, it is the nearer of the highest with buyers and the lowest with sellers in excess
     pub both_signs : (h l : ℕ) → HighestBought ps p h → LowestSold ps p l → Nearer h l p
     -- 5: where nothing is over at any that remains, none is nearer, and none at its distance is higher
-    pub all_even : All (λ q. Even q p → demand q ≡ supply q) ps → All (λ q. Even q p → (distance p ≤ distance q) × (distance q ≡ distance p → q ≤ p)) ps
+    pub all_even : AllByRecursion (λ q. Even q p → demand q ≡ supply q) ps → AllByRecursion (λ q. Even q p → (distance p ≤ distance q) × (distance q ≡ distance p → q ≤ p)) ps
 
   -- more volume, or as much and less imbalance
   abbrev pub trades_more : ℕ → ℕ → Bool

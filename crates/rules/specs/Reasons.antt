@@ -1,6 +1,6 @@
 -- The reasons to refuse a call, in words of the book, and which is told. Assumes nothing.
 use Rattle.std.specs.Prelude.{◌≡◌, ◌+◌, ◌*◌, ◌<◌, ◌≤◌, false, ◌⊎◌, List, [], ◌∷◌, ◌++◌, length, Some, None, Ok, Err, Option, Result, MatchOption, ◌≢◌}
-use Rattle.std.specs.List.{AllByRecursion as All}
+use Rattle.std.specs.List.{AllByRecursion}
 use Rattle.records.specs.declared.letters.Qualifier.TheVariants.{Unqualified}
 use Rattle.orders.specs.declared.order.Order.{Order}
 use Rattle.lines.specs.Kind.{Kind}
@@ -93,7 +93,7 @@ module _ {L : Type 0} (K : Kind L) where
   -- no place is free, and the order would rest without a trade
   abbrev pub NoRoom : Book L → Call → Type 0
   NoRoom s (join o plain) = NoPlace s
-  NoRoom s (enter o room) = NoPlace s × ((o.qualifier ≡ Unqualified) × All (λ x. accepts o (units K x) ≡ false) (others K s o))
+  NoRoom s (enter o room) = NoPlace s × ((o.qualifier ≡ Unqualified) × AllByRecursion (λ x. accepts o (units K x) ≡ false) (others K s o))
   NoRoom s (withdraw n) = ⊥
   NoRoom s (show n) = ⊥
   NoRoom s call = ⊥
@@ -116,7 +116,7 @@ module _ {L : Type 0} (K : Kind L) where
   abbrev pub NoSuchLine : Book L → Call → Type 0
   NoSuchLine s (join o plain) = ⊥
   NoSuchLine s (enter o room) = ⊥
-  NoSuchLine s (withdraw n) = All (λ x. K.number x ≢ n) (s.buyers ++ s.sellers)
+  NoSuchLine s (withdraw n) = AllByRecursion (λ x. K.number x ≢ n) (s.buyers ++ s.sellers)
   NoSuchLine s (show n) = ⊥
   NoSuchLine s call = ⊥
   NoSuchLine s (open' room) = ⊥
@@ -125,7 +125,7 @@ module _ {L : Type 0} (K : Kind L) where
   NoSuchLine s close = ⊥
 
   abbrev pub Reason : Book L → Call → BookFault → Type 0
-  Reason s c Turn = All (λ t. s.status ≢ t) (turns_of c)
+  Reason s c Turn = AllByRecursion (λ t. s.status ≢ t) (turns_of c)
   Reason s c Spent = NoNumberLeft s c
   Reason s c Band = OutOfBand s c
   Reason s c Empty = NobodyThere s c

@@ -1,5 +1,5 @@
 -- What the auction sheet sums, over lines of any kind, and the opening price. Assumes nothing.
-use Rattle.std.specs.Prelude.{◌≡◌, ℕ, ◌+◌, ◌<◌, ◌≤◌, cond, List, [], ◌∷◌, ◌++◌, map, ◌==◌, nat_le, nat_lt}
+use Rattle.std.specs.Prelude.{◌≡◌, ℕ, ◌<◌, ◌≤◌, cond, List, [], ◌∷◌, ◌++◌, map, ◌==◌, nat_le, nat_lt}
 use Rattle.prices.specs.declared.price.Price.{Price}
 use Rattle.lines.specs.Kind.{Kind}
 use Rattle.rules.specs.Lines.{shares, units}

@@ -1,7 +1,6 @@
-use Rattle.std.proofs.Common.{◌≡◌, cond, eqb, ◌++◌, codes, decimal, sym, ap, ◌∙◌}
+use Rattle.std.proofs.Common.{eqb, ◌++◌, codes, decimal, sym, ap, ◌∙◌}
 use Rattle.std.proofs.lemmas.Result.{IfOk-weaker}
 use Rattle.std.proofs.lemmas.Bool.{cond-false, ne_eqb}
-use Rattle.listing.specs.Words.{qualifier_part}
 use Rattle.listing.proofs.words.marks_text.Goals as goal
 
 pub returns : goal.returns

@@ -1,4 +1,4 @@
-use Rattle.std.proofs.Common.{◌≡◌, length, sym, ap, ◌∙◌, subst}
+use Rattle.std.proofs.Common.{length, sym, ap, ◌∙◌, subst}
 use Rattle.ordered_run.specs.Theorems.{Sound}
 use Rattle.ordered_run.proofs.Orders.{reach_sound}
 use Rattle.ordered_run.proofs.Steps.{reach_more, reach_all}

@@ -1,9 +1,9 @@
-use Rattle.std.proofs.Common.{◌≡◌, take, drop, Some, None, Ok, Err, Option, Result, sym, ap, ◌∙◌, subst}
+use Rattle.std.proofs.Common.{◌≡◌, take, drop, None, Ok, Err, Option, Result, sym, ap, ◌∙◌, subst}
 use Rattle.std.specs.Option.{option_map}
 use Rattle.std.proofs.lemmas.Result.{err_from_is_err_and}
 use Rattle.records.specs.declared.fault.RecordFault.{RecordFault}
 use Rattle.records.specs.declared.record.Record.{Record}
-use Rattle.records.specs.Reading.{Accepted, AccountIn, Reading, bytes_of, read_at, reading_of}
+use Rattle.records.specs.Reading.{Accepted, AccountIn, Reading, bytes_of, reading_of}
 use Rattle.orders.proofs.Checked.{check_at_is, check_some, same_reading}
 use Rattle.orders.specs.Checks.{fault_in}
 use Rattle.orders.proofs.reading.read_instruction.Goals as goal

@@ -1,4 +1,4 @@
-use Rattle.std.proofs.Common.{◌<◌, length, sym, ◌∙◌, arith}
+use Rattle.std.proofs.Common.{sym, ◌∙◌, arith}
 use Rattle.records.proofs.Misfits.{misfit_none, misfit_here, misfit_more, misfit_all}
 use Rattle.records.proofs.layout.first_misfit.Goals as goal
 

@@ -1,4 +1,4 @@
-use Rattle.std.proofs.Common.{◌≡◌, ◌≤◌, get_or, sym, ap, ◌∙◌, arith, rules}
+use Rattle.std.proofs.Common.{get_or, sym, ap, ◌∙◌, rules}
 use Rattle.std.proofs.lemmas.List.{take_rest}
 use Rattle.records.specs.Layout.{misfit, entry_layout, one_number_layout}
 use Rattle.records.specs.Reading.{kinds, start, withdrawal, entry_after}

@@ -1,7 +1,7 @@
-use Rattle.std.proofs.Common.{◌≡◌, ◌<◌, ◌≤◌, length, take, drop, Some, sym, ap, ◌∙◌, arith}
+use Rattle.std.proofs.Common.{◌<◌, ◌≤◌, length, take, drop, Some, sym, ap, ◌∙◌, arith}
 use Rattle.std.proofs.lemmas.List.{take_rest}
 use Rattle.std.proofs.lemmas.Result.{err_from_is_err_and}
-use Rattle.records.specs.Reading.{Reading, read_32}
+use Rattle.records.specs.Reading.{read_32}
 use Rattle.records.proofs.RoundTrips.{written_again, account_lies}
 use Rattle.records.proofs.Inputs.{read_at_end, read_at_tail, read_at_whole, length_record, bytes_part}
 use Rattle.records.specs.Refusals.{on_ok}

@@ -1,4 +1,4 @@
-use Rattle.std.proofs.Common.{◌≡◌, ◌+◌, sym, ap, ◌∙◌, arith, rules}
+use Rattle.std.proofs.Common.{◌+◌, sym, ap, rules}
 use Rattle.records.proofs.Inputs.{entry_written}
 use Rattle.records.specs.Refusals.{unless}
 use Rattle.std.specs.Option.{option_map}
