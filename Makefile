@@ -2,13 +2,17 @@
 FILES ?= 1500
 SEEDS ?= 1 2
 SECOND = second/target/release
+PROGRAM = crates/kicsurvad/out/kicsurvad
 
-.PHONY: run test compare bench examples vectors second
+.PHONY: run program test compare bench examples vectors second
 
 # Proves and builds the program, and runs it on a shipped example.
-run:
-	rt check kicsurvad
-	target/bin/kicsurvad check < examples/first.orders
+run: program
+	$(PROGRAM) check < examples/first.orders
+
+# Proves and builds the program. rt builds a program only to run it, so it runs on an empty file.
+program:
+	cd crates/kicsurvad && rt run -- check < /dev/null > /dev/null
 
 # The gate.
 test:
@@ -18,15 +22,14 @@ second:
 	cargo build --release --quiet --manifest-path second/Cargo.toml
 
 # Runs both programs on generated files and says how many answers were alike: make compare FILES=5000 SEEDS="3 4"
-compare: second
-	rt check kicsurvad
-	$(SECOND)/compare target/bin/kicsurvad $(SECOND)/second $(FILES) $(SEEDS)
+compare: second program
+	$(SECOND)/compare $(PROGRAM) $(SECOND)/second $(FILES) $(SEEDS)
 
 # Times both programs on 100,000 records.
-bench: second
-	rt check kicsurvad
+bench: second program
+	mkdir -p target
 	$(SECOND)/compare write 100000 5 > target/bench.orders
-	time target/bin/kicsurvad check < target/bench.orders > target/bench.first
+	time $(PROGRAM) check < target/bench.orders > target/bench.first
 	time $(SECOND)/second check < target/bench.orders > target/bench.second
 	cmp target/bench.first target/bench.second
 
