@@ -22,9 +22,9 @@ module _ {L : Type 0} (K : Kind L) (R : L → L → Type 0) where
   pub across_without : (n : ℕ) (bs os : List L) → Across R bs os → Across R (without K n bs) (without K n os)
   across_without n bs os h = all_without K (λ b. AllByRecursion (R b) (without K n os)) n bs (All-weaker (λ b. AllByRecursion (R b) os) (λ b. AllByRecursion (R b) (without K n os)) (λ b a. all_without K (R b) n os a) bs h)
 
-module _ {L : Type 0} {K : Kind L} (R : L → L → Type 0) (left-kept : (q : ℕ) (x y : L) → R x y → R (K.taken q x) y) (right_kept : (q : ℕ) (x y : L) → R x y → R x (K.taken q y)) where
+module _ {L : Type 0} {K : Kind L} (R : L → L → Type 0) (left_kept : (q : ℕ) (x y : L) → R x y → R (K.taken q x) y) (right_kept : (q : ℕ) (x y : L) → R x y → R x (K.taken q y)) where
   across_left : {e : ℕ → Bool} {k : ℕ} {bs : List L} {w : Sweep L} (os : List L) → Swept K e k bs w → Across R bs os → Across R w.rest os
-  across_left os r h = kept_all (λ b. AllByRecursion (R b) os) (λ k b _ a. All-weaker (R b) (R (K.taken k b)) (λ y. left-kept k b y) os a) r h
+  across_left os r h = kept_all (λ b. AllByRecursion (R b) os) (λ k b _ a. All-weaker (R b) (R (K.taken k b)) (λ y. left_kept k b y) os a) r h
 
   across_right : {e : ℕ → Bool} {k : ℕ} {os : List L} {w : Sweep L} (bs : List L) → Swept K e k os w → Across R bs os → Across R bs w.rest
   across_right {os = os} {w = w} bs r h = All-weaker (λ b. AllByRecursion (R b) os) (λ b. AllByRecursion (R b) w.rest) (λ b a. kept_all (R b) (λ k y _ l. right_kept k b y l) r a) bs h

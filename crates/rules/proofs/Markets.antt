@@ -14,12 +14,12 @@ module _ {L : Type 0} (K : Kind L) (P : Book L → Type 0) where
   Alive None = Unit {0}
   Alive (Some s) = P s.book
 
-module _ {L : Type 0} (K : Kind L) (P : Book L → Type 0) (fresh-has : (reference : Price) (run : ℕ) → P (fresh K reference run)) (step_Keeps : (s : Book L) (c : Call) → P s → P (step K s c).after) where
+module _ {L : Type 0} (K : Kind L) (P : Book L → Type 0) (fresh_has : (reference : Price) (run : ℕ) → P (fresh K reference run)) (step_keeps : (s : Book L) (c : Call) → P s → P (step K s c).after) where
   alive_commanded : (o : Option (Desk L)) (c : Command) → Alive K P o → Alive K P (commanded K o c)
-  alive_commanded None (starting reference run sizes) h = fresh-has reference run
+  alive_commanded None (starting reference run sizes) h = fresh_has reference run
   alive_commanded None (asking a) h = tt
   alive_commanded (Some s) (starting reference run sizes) h = h
-  alive_commanded (Some s) (asking a) h = step_Keeps s.book (call_of a s.tapes) h
+  alive_commanded (Some s) (asking a) h = step_keeps s.book (call_of a s.tapes) h
 
   pub alive_touched : (m : ℕ → Option (Desk L)) (i : ℕ) (c : Command) → ((j : ℕ) → Alive K P (m j)) → (j : ℕ) → Alive K P (touched K m i c j)
   alive_touched m i c h j = cond_both (eqb j i) (commanded K (m i) c) (m j) (Alive K P) (λ _. alive_commanded (m i) c (h i)) (λ _. h j)
@@ -31,11 +31,11 @@ module _ {L : Type 0} (K : Kind L) (P : Book L → Type 0) (fresh-has : (referen
   pub each_book : (cs : List (ℕ × Command)) (i : ℕ) → Alive K P (market K (λ _. None) cs i)
   each_book cs i = market_alive (λ _. None) cs (λ _. tt) i
 
-  module _ (Q : Event L → Type 0) (event-has : (s : Desk L) (a : Asked) → P s.book → Q (event K s a)) where
+  module _ (Q : Event L → Type 0) (event_has : (s : Desk L) (a : Asked) → P s.book → Q (event K s a)) where
     happened_has : (o : Option (Desk L)) (c : Command) → Alive K P o → AllByRecursion Q (happened K o c)
     happened_has None c h = tt
     happened_has (Some s) (starting reference run sizes) h = tt
-    happened_has (Some s) (asking a) h = (event-has s a h, tt)
+    happened_has (Some s) (asking a) h = (event_has s a h, tt)
 
     history_has : (m : ℕ → Option (Desk L)) (cs : List (ℕ × Command)) (i : ℕ) → ((j : ℕ) → Alive K P (m j)) → AllByRecursion Q (history K m cs i)
     history_has m [] i h = tt
