@@ -1,16 +1,14 @@
 #!/bin/sh
 # Shows that two misuses of a pre-open book do not compile, each beside the right use, which does.
-# It wants the crate book proved in target/; `make misuse` sees to that.
+# A check that was not made here before proves the crates below first, which takes some minutes.
 here=$(cd "$(dirname "$0")/.." && pwd) || exit 2
 work=$(mktemp -d) || exit 2
 trap 'rm -rf "$work"' EXIT
 trap 'exit 2' HUP INT TERM
 
-# A copy of the repository with one crate more, over the libraries that are proved already.
-mkdir -p "$work/target" "$work/crates/misuse/src" &&
-    cp -R "$here"/crates/* "$work/crates" &&
-    cp "$here/crates.txt" "$work" &&
-    cp -R "$here/target/rlib" "$here/target/stamp" "$work/target" || exit 2
+# A copy of the repository's sources with one crate more.
+mkdir -p "$work/crates/misuse/src" &&
+    (cd "$here" && tar cf - --exclude=out crates crates.txt) | (cd "$work" && tar xf -) || exit 2
 echo 'misuse: prices records orders ordered_run lines rules tape auction matching book' >>"$work/crates.txt"
 
 failed=0
@@ -19,23 +17,24 @@ failed=0
 compile() { # WHAT
     text=$(cat)
     {
+        echo '#![tactic(auto)]'
         echo 'use book::PreOpenBook;'
         echo 'use lines::Line;'
         echo 'use orders::Order;'
         echo 'use orders::PlainOrder;'
         echo "$text"
     } >"$work/crates/misuse/src/lib.rt"
-    (cd "$work" && rt mir misuse) >/dev/null 2>"$work/said"
+    (cd "$work/crates/misuse" && rt check) >"$work/said" 2>&1
     status=$?
     echo "$1:"
     echo "$text" | sed 's/^/    /'
-    grep -F "$work/crates/misuse/src/" "$work/said" | sed "s,$work/crates/,,g"
+    grep -E '^(so far: )?(\./)?src/' "$work/said" | grep -F 'error[' | sort -u
 }
 
-# The text on standard input must compile.
+# The text on standard input must compile: the check comes as far as its proof, which is not asked for here.
 accept() { # WHAT
     compile "$1"
-    if [ "$status" -eq 0 ]; then echo 'compiled'; else
+    if grep -q '^fn misuse::' "$work/said" && ! grep -qF 'error[' "$work/said"; then echo 'compiled'; else
         cat "$work/said"
         echo 'WRONG: this is the right use, and should compile'
         failed=1
