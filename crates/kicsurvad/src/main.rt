@@ -28,10 +28,7 @@ fn asks_to_check(rt: &HostRuntime) -> anyhow::Result<bool> {
     let mut words = env::args(rt)?.skip(1);
     let first = words.next();
     let more = words.next().is_some();
-    match first {
-        Some(word) => Ok(word.as_str() == "check" && !more),
-        None => Ok(false),
-    }
+    Ok(first.is_some_and(|word| word.as_str() == "check") && !more)
 }
 
 // Does what the argument asks for, and says how the program ends.

@@ -16,6 +16,10 @@ rank_before Buy Sell p q tie = true
 rank_before Sell Buy p q tie = false
 rank_before Sell Sell p q tie = lower_before p q tie
 
+-- the lower number, whatever the classes
+abbrev pub number_tie : {C : Type 0} → C → C → ℕ → ℕ → Bool
+number_tie c d m n = nat_lt m n
+
 -- investors before dealers; within one capacity the lower number
 abbrev pub capacity_tie : Capacity → Capacity → ℕ → ℕ → Bool
 capacity_tie Investor Investor m n = nat_lt m n

@@ -31,6 +31,6 @@ impl Ranked for PriceLevel {
     }
 
     fn is_before(&self, other: &PriceLevel) -> bool {
-        other.price.units() < self.price.units()
+        other.price < self.price
     }
 }

@@ -1,18 +1,18 @@
 // Orders that rest in a book, of two kinds, and the levels of an auction sheet.
 #![tactic(auto)]
 
-mod capacity;
+mod class;
 mod level;
 mod line;
 mod queued;
 mod queued_line;
 mod rank;
+mod resting;
 #[cfg(test)]
 mod tests;
-mod time;
 
-pub use capacity::CapacityLine;
+pub use class::{Alike, Class};
 pub use level::PriceLevel;
-pub use line::Line;
+pub use line::{Line, MoreThanLeft};
 pub use queued::Queued;
-pub use time::TimeLine;
+pub use resting::{CapacityLine, Resting, TimeLine, lines_are_of_their_kinds};

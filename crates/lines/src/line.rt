@@ -1,11 +1,15 @@
 // A line: an order that rests in a book, by its number, side, price and the shares it has left.
-ghost use Rattle.std.specs.Prelude.{◌≡◌, if◌then◌else◌, nat_le};
+ghost use Rattle.std.specs.Prelude.{◌≡◌, if◌then◌else◌, is_ok, nat_le};
 ghost use Rattle.ordered_run.specs.Ranking.{Ranking};
 ghost use Rattle.lines.specs.Kind.{Kind, Making, Sides, Taking};
 
 use orders::Order;
 use prices::Price;
 use records::Side;
+
+// More shares are to be taken off than the line has left.
+#[derive(Clone, Copy, PartialEq, Eq, Debug)]
+pub struct MoreThanLeft;
 
 pub trait Line: Copy {
     ghost kind: { Kind Self };
@@ -28,10 +32,10 @@ pub trait Line: Copy {
     fn is_before(&self, other: &Self) -> bool
         ensures { result ≡ kind.precedes self.now other.now };
 
-    // Takes up to the shares that are left; a no changes nothing.
-    fn take_off(&mut self, shares: u32) -> bool
-        ensures answer { result ≡ nat_le shares (kind.left self.old) }
-        ensures after { self.new ≡ (if result then kind.taken shares self.old else self.old) };
+    // Takes up to the shares that are left; an error changes nothing.
+    fn take_off(&mut self, shares: u32) -> Result<(), MoreThanLeft>
+        ensures answer { is_ok result ≡ nat_le shares (kind.left self.old) }
+        ensures after { self.new ≡ (if is_ok result then kind.taken shares self.old else self.old) };
 
     // A line tells the facts that it was made of.
     ghost making: { Making kind };

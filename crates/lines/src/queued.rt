@@ -8,9 +8,9 @@ use ordered_run::Ranked;
 pub struct Queued<L>(pub L);
 
 impl<L: Line> Ranked for Queued<L> {
-    ghost key = { λ q. L.Line.kind.number q.0 };
+    ghost key = { λ q. L.kind.number q.0 };
 
-    ghost precedes = { λ x y. L.Line.kind.precedes x.0 y.0 };
+    ghost precedes = { λ x y. L.kind.precedes x.0 y.0 };
 
     ghost ranking = { Prim.search rules };
 

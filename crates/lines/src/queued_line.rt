@@ -2,7 +2,7 @@
 ghost use Rattle.lines.specs.Queues.{queued};
 ghost use Rattle.std.proofs.Common.{rules};
 
-use crate::line::Line;
+use crate::line::{Line, MoreThanLeft};
 use crate::queued::Queued;
 use orders::Order;
 use prices::Price;
@@ -10,7 +10,7 @@ use records::Side;
 
 // It is a line like the one in it.
 impl<L: Line> Line for Queued<L> {
-    ghost kind = { queued L.Line.kind };
+    ghost kind = { queued L.kind };
 
     ghost making = { Prim.search rules };
 
@@ -44,7 +44,7 @@ impl<L: Line> Line for Queued<L> {
         self.0.is_before(&other.0)
     }
 
-    fn take_off(&mut self, shares: u32) -> bool {
+    fn take_off(&mut self, shares: u32) -> Result<(), MoreThanLeft> {
         self.0.take_off(shares)
     }
 }

@@ -1,43 +1,18 @@
-// Rank by side and price, which both kinds share.
-ghost use Rattle.std.specs.Prelude.{◌≡◌};
-ghost use Rattle.lines.specs.Rank.{capacity_tie, rank_before};
-
+// The rank of a line, as a key whose lower value goes first.
 use prices::Price;
-use records::{Capacity, Side};
+use std::cmp::Reverse;
 
-// Buyers before sellers, then the better price; `tie` where both are the same.
-pub(crate) fn rank_before(
-    side: Side,
-    other_side: Side,
-    price: Price,
-    other_price: Price,
-    tie: bool,
-) -> bool
-    ensures { result ≡ rank_before side other_side price.units other_price.units tie }
-{
-    let units = price.units();
-    let other = other_price.units();
-    match (side, other_side) {
-        (Side::Buy, Side::Buy) => other < units || other == units && tie,
-        (Side::Buy, Side::Sell) => true,
-        (Side::Sell, Side::Buy) => false,
-        (Side::Sell, Side::Sell) => units < other || units == other && tie,
-    }
+// Buyers before sellers; of buyers the higher price first, of sellers the lower.
+#[derive(Clone, Copy, PartialEq, Eq, PartialOrd, Ord)]
+pub(crate) enum Offer {
+    Buy(Reverse<Price>),
+    Sell(Price),
 }
 
-// Investors before dealers, and within one capacity the lower number.
-pub(crate) fn capacity_tie(
-    capacity: Capacity,
-    other_capacity: Capacity,
-    number: u32,
-    other: u32,
-) -> bool
-    ensures { result ≡ capacity_tie capacity other_capacity number other }
-{
-    match (capacity, other_capacity) {
-        (Capacity::Investor, Capacity::Dealer) => true,
-        (Capacity::Dealer, Capacity::Investor) => false,
-        (Capacity::Investor, Capacity::Investor) | (Capacity::Dealer, Capacity::Dealer) => number
-            < other,
-    }
+// By offer, then the lower class, then the lower number.
+#[derive(Clone, Copy, PartialEq, Eq, PartialOrd, Ord)]
+pub(crate) struct Rank<C> {
+    pub(crate) offer: Offer,
+    pub(crate) class: C,
+    pub(crate) number: u32,
 }

@@ -1,17 +1,10 @@
 use crate::*;
-use ordered_run::OrderedRun;
+use ordered_run::{OrderedRun, PutError};
 use orders::Order;
 use prices::Price;
 use records::{Capacity, EntryFields, OrderType, Qualifier, Side};
 use std::process::Abort;
 use std::test::Fail;
-
-fn price(units: u32) -> Result<Price, Fail> {
-    match Price::new(units) {
-        Some(price) => Ok(price),
-        None => Err(Fail::new("no price")),
-    }
-}
 
 // A resting order of 500 shares, of either kind.
 fn line<L: Line>(
@@ -29,18 +22,16 @@ fn line<L: Line>(
         minimum: 0,
         capacity,
     };
-    match Order::new(fields) {
-        Ok(order) => Ok(Queued(L::new(order, number, price(units)?, 500))),
-        Err(_) => Err(Fail::new("no order")),
-    }
+    let order = Order::try_from(fields)?;
+    Ok(Queued(L::new(order, number, Price::try_from(units)?, 500)))
 }
 
 // Puts four lines in, the best last, and finds them by rank.
 fn fill<L: Line>(rt: &impl Abort, run: &mut OrderedRun<Queued<L>>) -> Result<(), Fail> {
-    assert!(rt; run.put(line::<L>(Side::Sell, Capacity::Dealer, 1_005, 1)?));
-    assert!(rt; run.put(line::<L>(Side::Buy, Capacity::Dealer, 990, 2)?));
-    assert!(rt; run.put(line::<L>(Side::Sell, Capacity::Dealer, 1_000, 3)?));
-    assert!(rt; run.put(line::<L>(Side::Buy, Capacity::Dealer, 1_000, 4)?));
+    run.put(line::<L>(Side::Sell, Capacity::Dealer, 1_005, 1)?)?;
+    run.put(line::<L>(Side::Buy, Capacity::Dealer, 990, 2)?)?;
+    run.put(line::<L>(Side::Sell, Capacity::Dealer, 1_000, 3)?)?;
+    run.put(line::<L>(Side::Buy, Capacity::Dealer, 1_000, 4)?)?;
     assert_eq!(rt; run.find(4), Some(0));
     assert_eq!(rt; run.find(2), Some(1));
     assert_eq!(rt; run.find(3), Some(2));
@@ -54,18 +45,20 @@ fn a_run_of_time_lines(rt: HostRuntime) -> Result<(), Fail> {
     let mut slots = [free; 4];
     let mut run = OrderedRun::new(&mut slots);
     fill(&rt, &mut run)?;
-    assert!(rt;
-        !run.put(line::<TimeLine>(Side::Buy, Capacity::Dealer, 994, 5)?),
+    assert_eq!(rt;
+        run.put(line::<TimeLine>(Side::Buy, Capacity::Dealer, 994, 5)?),
+        Err(PutError::Full),
         "each place is used"
     );
     assert!(rt; run.take_out(2).is_some());
     assert!(rt; run.take_out(2).is_none());
-    assert!(rt;
-        !run.put(line::<TimeLine>(Side::Buy, Capacity::Dealer, 994, 3)?),
+    assert_eq!(rt;
+        run.put(line::<TimeLine>(Side::Buy, Capacity::Dealer, 994, 3)?),
+        Err(PutError::SameKey),
         "the number is there"
     );
     assert_eq!(rt; run.len(), 3);
-    assert!(rt; run.put(line::<TimeLine>(Side::Buy, Capacity::Investor, 1_000, 5)?));
+    run.put(line::<TimeLine>(Side::Buy, Capacity::Investor, 1_000, 5)?)?;
     assert_eq!(rt; run.find(5), Some(1), "the lower number first");
     Ok(())
 }
@@ -76,28 +69,81 @@ fn a_run_of_capacity_lines(rt: HostRuntime) -> Result<(), Fail> {
     let mut slots = [free; 5];
     let mut run = OrderedRun::new(&mut slots);
     fill(&rt, &mut run)?;
-    assert!(rt; run.put(line::<CapacityLine>(Side::Buy, Capacity::Investor, 1_000, 5)?));
+    run.put(line::<CapacityLine>(Side::Buy, Capacity::Investor, 1_000, 5)?)?;
     assert_eq!(rt; run.find(5), Some(0), "investors first");
     assert_eq!(rt; run.find(4), Some(1));
     Ok(())
 }
 
+// Lines of the listed sides, capacities, prices and numbers, each of which precedes those listed after it and no other.
+fn precede_in_turn<L: Line>(
+    rt: &impl Abort,
+    listed: &[(Side, Capacity, u32, u32)],
+) -> Result<(), Fail> {
+    for (i, (side, capacity, units, number)) in listed.iter().enumerate() {
+        let Queued(one) = line::<L>(*side, *capacity, *units, *number)?;
+        for (j, (side, capacity, units, number)) in listed.iter().enumerate() {
+            let Queued(other) = line::<L>(*side, *capacity, *units, *number)?;
+            assert_eq!(rt; one.is_before(&other), i < j, "line {i} and line {j}");
+        }
+    }
+    Ok(())
+}
+
 #[test]
-fn shares_are_taken_off(rt: HostRuntime) -> Result<(), Fail> {
-    let Queued(mut resting) = line::<TimeLine>(Side::Buy, Capacity::Dealer, 1_000, 7)?;
-    assert!(rt; !resting.take_off(501));
+fn time_lines_of_every_rank(rt: HostRuntime) -> Result<(), Fail> {
+    precede_in_turn::<TimeLine>(
+        &rt,
+        &[
+            (Side::Buy, Capacity::Dealer, 1_010, 9),
+            (Side::Buy, Capacity::Dealer, 1_000, 3),
+            (Side::Buy, Capacity::Investor, 1_000, 5),
+            (Side::Buy, Capacity::Dealer, 1_000, 7),
+            (Side::Sell, Capacity::Dealer, 990, 8),
+            (Side::Sell, Capacity::Dealer, 1_005, 2),
+            (Side::Sell, Capacity::Investor, 1_005, 6),
+        ],
+    )
+}
+
+#[test]
+fn capacity_lines_of_every_rank(rt: HostRuntime) -> Result<(), Fail> {
+    precede_in_turn::<CapacityLine>(
+        &rt,
+        &[
+            (Side::Buy, Capacity::Dealer, 1_010, 9),
+            (Side::Buy, Capacity::Investor, 1_000, 5),
+            (Side::Buy, Capacity::Dealer, 1_000, 3),
+            (Side::Buy, Capacity::Dealer, 1_000, 7),
+            (Side::Sell, Capacity::Dealer, 990, 8),
+            (Side::Sell, Capacity::Investor, 1_005, 6),
+            (Side::Sell, Capacity::Dealer, 1_005, 2),
+        ],
+    )
+}
+
+// Takes shares off a line of 500, of either kind.
+fn take_shares_off<L: Line>(rt: &impl Abort) -> Result<(), Fail> {
+    let Queued(mut resting) = line::<L>(Side::Buy, Capacity::Dealer, 1_000, 7)?;
+    assert_eq!(rt; resting.take_off(501), Err(MoreThanLeft));
     assert_eq!(rt; resting.left(), 500);
-    assert!(rt; resting.take_off(200));
+    assert_eq!(rt; resting.take_off(200), Ok(()));
     assert_eq!(rt; resting.left(), 300);
-    assert!(rt; resting.take_off(300));
+    assert_eq!(rt; resting.take_off(300), Ok(()));
     assert_eq!(rt; resting.left(), 0);
     assert_eq!(rt; resting.number(), 7);
     Ok(())
 }
 
+#[test]
+fn shares_are_taken_off(rt: HostRuntime) -> Result<(), Fail> {
+    take_shares_off::<TimeLine>(&rt)?;
+    take_shares_off::<CapacityLine>(&rt)
+}
+
 fn level(units: u32) -> Result<PriceLevel, Fail> {
     Ok(PriceLevel {
-        price: price(units)?,
+        price: Price::try_from(units)?,
         buyers: 100,
         sellers: 300,
         volume: 100,
@@ -109,10 +155,14 @@ fn level(units: u32) -> Result<PriceLevel, Fail> {
 fn a_run_of_price_levels(rt: HostRuntime) -> Result<(), Fail> {
     let mut slots = [level(1)?; 3];
     let mut run = OrderedRun::new(&mut slots);
-    assert!(rt; run.put(level(1_000)?));
-    assert!(rt; run.put(level(990)?));
-    assert!(rt; !run.put(level(1_000)?), "the price is there");
-    assert!(rt; run.put(level(1_010)?));
+    run.put(level(1_000)?)?;
+    run.put(level(990)?)?;
+    assert_eq!(rt;
+        run.put(level(1_000)?),
+        Err(PutError::SameKey),
+        "the price is there"
+    );
+    run.put(level(1_010)?)?;
     assert_eq!(rt; run.find(1_010), Some(0));
     assert_eq!(rt; run.find(1_000), Some(1));
     assert_eq!(rt; run.find(990), Some(2));

@@ -1,16 +1,17 @@
 -- What an instruction says, as the record says it. Assumes nothing.
-use Rattle.std.specs.Prelude.{ℕ, List, take, drop}
+use Rattle.prices.specs.declared.price.Price.{Price}
+use Rattle.records.specs.declared.record.Account.{Account}
+use Rattle.records.specs.declared.record.Message.{Message}
+use Rattle.records.specs.declared.record.Message.TheVariants.{Start, Entry, Withdrawal, Opening, Halt, Resumption, Closing}
 use Rattle.records.specs.Reading.{Reading, start, entry, withdrawal, opening, halt, resumption, closing}
-use Rattle.orders.specs.declared.instruction.Instruction.{Instruction}
-use Rattle.orders.specs.declared.instruction.Instruction.TheVariants.{Start, Entry, Withdrawal, Opening, Halt, Resumption, Closing}
+use Rattle.orders.specs.declared.order.Order.{Order}
 use Rattle.orders.specs.Orders.{fields_of}
 
--- with the eight bytes of the account, which lie in the input
-abbrev pub says : List ℕ → Instruction → Reading
-says input (Start reference) = start reference.units
-says input (Entry order place) = entry (fields_of order) (take 8 (drop place input)) place
-says input (Withdrawal number) = withdrawal number
-says input Opening = opening
-says input Halt = halt
-says input Resumption = resumption
-says input Closing = closing
+abbrev pub says : Message Price Order Account → Reading
+says (Start reference) = start reference.units
+says (Entry order account) = entry (fields_of order) account.bytes.now account.place
+says (Withdrawal number) = withdrawal number
+says Opening = opening
+says Halt = halt
+says Resumption = resumption
+says Closing = closing

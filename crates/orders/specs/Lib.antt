@@ -4,3 +4,4 @@ pub mod Checks
 pub mod Orders
 pub mod Plain
 pub mod Instructions
+pub mod Words

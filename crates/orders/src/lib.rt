@@ -11,6 +11,6 @@ mod writing;
 
 pub use fault::OrderFault;
 pub use instruction::Instruction;
-pub use order::{Order, PlainOrder};
+pub use order::{NotPlain, Order, PlainOrder};
 pub use reading::read_instruction;
 pub use writing::{write_order, write_reference};

@@ -7,18 +7,18 @@ use records::{Capacity, Qualifier, Side};
 
 mod making;
 mod plain;
+mod words;
 
-pub use making::checked_price;
-pub use plain::PlainOrder;
+pub use plain::{NotPlain, PlainOrder};
 
-#[derive(Clone, Copy)]
+#[derive(Clone, Copy, PartialEq, Eq, Debug)]
 pub struct Order {
     side: Side,
     // None at a market order.
     limit: Option<Price>,
     qualifier: Qualifier,
     quantity: u32,
-    // 0 where there is none.
+    // The least number of shares that must trade, so 0 where there is none: an `Option` would have two ways to say it.
     minimum: u32,
     capacity: Capacity,
     ghost lot: { quantity_rule quantity ≡ true },

@@ -1,5 +1,5 @@
 use crate::*;
-use records::{Capacity, EntryFields, OrderType, Qualifier, Side};
+use records::{Capacity, EntryFields, OrderType, Qualifier, Refusal, Side};
 
 fn fields(
     order_type: OrderType,
@@ -19,12 +19,10 @@ fn fields(
     }
 }
 
-// The number of the refusal, or 0 where the fields make an order.
-fn refusal_number(fields: EntryFields) -> u8 {
-    match Order::new(fields) {
-        Ok(_) => 0,
-        Err(fault) => fault.refusal().number,
-    }
+// The number of the refusal; none where the fields make an order.
+fn refusal_number(fields: EntryFields) -> Option<u8> {
+    let fault = Order::try_from(fields).err()?;
+    Some(Refusal::from(fault).number)
 }
 
 #[test]
@@ -32,18 +30,18 @@ fn the_lowest_refusal_is_given(rt: HostRuntime) {
     let limit = OrderType::Limit;
     let none = Qualifier::Unqualified;
     for (price, quantity, minimum, number) in [
-        (1_000, 100, 0, 0),
-        (1_000, 1_000_000, 1_000_000, 0),
-        (10_000_000, 500, 300, 0),
-        (1_003, 50, 70, 4),
-        (0, 100, 0, 4),
-        (1_000, 0, 0, 5),
-        (1_000, 150, 200, 5),
-        (1_000, 1_000_100, 0, 5),
-        (1_000, u32::MAX, u32::MAX, 5),
-        (1_000, 500, 600, 6),
-        (1_000, 500, 150, 6),
-        (1_000, 500, u32::MAX, 6),
+        (1_000, 100, 0, None),
+        (1_000, 1_000_000, 1_000_000, None),
+        (10_000_000, 500, 300, None),
+        (1_003, 50, 70, Some(4)),
+        (0, 100, 0, Some(4)),
+        (1_000, 0, 0, Some(5)),
+        (1_000, 150, 200, Some(5)),
+        (1_000, 1_000_100, 0, Some(5)),
+        (1_000, u32::MAX, u32::MAX, Some(5)),
+        (1_000, 500, 600, Some(6)),
+        (1_000, 500, 150, Some(6)),
+        (1_000, 500, u32::MAX, Some(6)),
     ] {
         assert_eq!(rt;
             refusal_number(fields(limit, none, price, quantity, minimum)),
@@ -58,40 +56,40 @@ fn market_and_fill_or_kill_have_no_minimum(rt: HostRuntime) {
     let limit = OrderType::Limit;
     assert_eq!(rt;
         refusal_number(fields(market, Qualifier::Unqualified, 0, 500, 0)),
-        0
+        None
     );
     assert_eq!(rt;
         refusal_number(fields(market, Qualifier::Unqualified, 1_000, 500, 100)),
-        4
+        Some(4)
     );
     assert_eq!(rt;
         refusal_number(fields(market, Qualifier::Unqualified, 0, 500, 100)),
-        7
+        Some(7)
     );
     assert_eq!(rt;
         refusal_number(fields(limit, Qualifier::FillOrKill, 1_000, 500, 0)),
-        0
+        None
     );
     assert_eq!(rt;
         refusal_number(fields(limit, Qualifier::FillOrKill, 1_000, 500, 100)),
-        7
+        Some(7)
     );
     assert_eq!(rt;
         refusal_number(fields(limit, Qualifier::FillOrKill, 1_000, 500, 150)),
-        6
+        Some(6)
     );
     assert_eq!(rt;
         refusal_number(fields(limit, Qualifier::ImmediateOrCancel, 1_000, 500, 500)),
-        0
+        None
     );
 }
 
 // Whether the fields make an order, and a plain one.
 fn is_plain(fields: EntryFields) -> bool {
-    match Order::new(fields) {
-        Ok(order) => order.plain().is_some(),
-        Err(_) => false,
-    }
+    let Ok(order) = Order::try_from(fields) else {
+        return false;
+    };
+    PlainOrder::try_from(order).is_ok()
 }
 
 #[test]
@@ -114,7 +112,7 @@ fn plain_orders_are_limits_and_no_more(rt: HostRuntime) {
 // The order's record, or 32 zeros where the fields make no order.
 fn record_of(fields: EntryFields, account: &[u8; 8]) -> [u8; 32] {
     let mut out = [0; 32];
-    if let Ok(order) = Order::new(fields) {
+    if let Ok(order) = Order::try_from(fields) {
         let _ = write_order(order, account, &mut out);
     }
     out

@@ -7,7 +7,7 @@ ghost use Rattle.orders.specs.Orders.{fields_of};
 
 use crate::order::Order;
 use prices::Price;
-use records::{RecordFault, write_entry, write_start};
+use records::{RecordFault, ShortRecord, write_entry, write_short};
 
 // Fills the 32 bytes with the order's entry, or, where a byte of the account is out of range, refuses the first such and writes nothing.
 pub fn write_order(order: Order, account: &[u8; 8], out: &mut [u8; 32]) -> Result<(), RecordFault>
@@ -16,7 +16,7 @@ pub fn write_order(order: Order, account: &[u8; 8], out: &mut [u8; 32]) -> Resul
     ensures read { OnOk result (check_at out.new 0 ≡ Ok (Some (entry (fields_of order) account.now 24))) }
     ensures itself { OnOk result ((o : Order) (bytes : List ℕ) (place : ℕ) → check_at out.new 0 ≡ Ok (Some (entry (fields_of o) bytes place)) → o ≡ order) }
 {
-    write_entry(order.fields(), account, out)
+    write_entry(order.into(), account, out)
 }
 
 // Fills the 32 bytes with the start record of the reference.
@@ -24,5 +24,5 @@ pub fn write_reference(reference: Price, out: &mut [u8; 32])
     ensures after { out.new ≡ start_bytes reference.units }
     ensures read { check_at out.new 0 ≡ Ok (Some (start reference.units)) }
 {
-    write_start(reference.units(), out)
+    write_short(ShortRecord::Start(reference.units()), out)
 }

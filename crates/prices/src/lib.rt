@@ -6,5 +6,5 @@ mod steps;
 #[cfg(test)]
 mod tests;
 
-pub use price::Price;
+pub use price::{NoPrice, Price};
 pub use steps::{StepRow, house_steps, step_at};

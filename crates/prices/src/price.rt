@@ -10,3 +10,7 @@ pub struct Price {
     units: u32,
     ghost lawful: { lawful_price units ≡ true },
 }
+
+// A number at which the rule has no price.
+#[derive(Clone, Copy, PartialEq, Eq, Debug)]
+pub struct NoPrice;

@@ -3,7 +3,7 @@ ghost use Rattle.std.specs.Prelude.{◌≡◌};
 ghost use Rattle.prices.specs.Steps.{house_steps, step_at, step_past};
 
 // From `start` on, up to the next row's start, a price is a multiple of `step`.
-#[derive(Clone, Copy)]
+#[derive(Clone, Copy, PartialEq, Eq, Debug)]
 pub struct StepRow {
     pub start: u32,
     pub step: u32,
@@ -47,13 +47,11 @@ fn step_past(row: StepRow, units: u32, step: u32) -> u32
     if row.start <= units { row.step } else { step }
 }
 
-// The step of the last row that starts at or below `units`, or 0 where there is none.
+// The step of the last row that starts at or below `units`, or 0 where there is none: a row may have step 0 itself, and both make no price.
+// Of any table, in order or not, so it looks at every row.
 pub fn step_at(rows: &[StepRow], units: u32) -> u32
     ensures { result ≡ step_at rows.now units }
 {
-    let mut step = 0;
-    for row in rows {
-        step = step_past(*row, units, step);
-    }
-    step
+    rows.iter()
+        .fold(0, |step, row| step_past(*row, units, step))
 }

@@ -1,4 +1,4 @@
-use crate::{Price, house_steps, step_at};
+use crate::{NoPrice, Price, house_steps, step_at};
 use std::test::Fail;
 
 #[test]
@@ -6,9 +6,7 @@ fn lawful_numbers_make_prices(rt: HostRuntime) -> Result<(), Fail> {
     for units in [
         1, 499, 500, 998, 1_000, 4_995, 5_000, 49_975, 50_000, 99_950, 100_000, 10_000_000,
     ] {
-        let Some(price) = Price::new(units) else {
-            return Err(Fail::new("refused"));
-        };
+        let price = Price::try_from(units)?;
         assert_eq!(rt; price.units(), units);
     }
     Ok(())
@@ -31,7 +29,7 @@ fn other_numbers_make_none(rt: HostRuntime) {
         10_000_100,
         u32::MAX,
     ] {
-        assert!(rt; Price::new(units).is_none());
+        assert_eq!(rt; Price::try_from(units), Err(NoPrice));
     }
 }
 
@@ -64,9 +62,7 @@ fn prices_print_with_four_places(rt: HostRuntime) -> Result<(), Fail> {
         (123_400, "12.3400"),
         (10_000_000, "1000.0000"),
     ] {
-        let Some(price) = Price::new(units) else {
-            return Err(Fail::new("refused"));
-        };
+        let price = Price::try_from(units)?;
         let shown = format!(in rt.alloc(); "{price}")?;
         assert!(rt; shown.as_str() == text);
     }

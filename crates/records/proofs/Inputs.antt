@@ -4,9 +4,13 @@ use Rattle.std.proofs.lemmas.List.{length-drop, length-take, get_or-take, get_or
 use Rattle.std.proofs.lemmas.Bool.{cases_lt, cond-true, cond-false, eq-eqb, ne_eqb, lt-ltb, le-ltb}
 use Rattle.records.specs.declared.fault.RecordFault.TheVariants.{Tail}
 use Rattle.records.specs.declared.record.EntryFields.{EntryFields}
-use Rattle.records.specs.Bytes.{entry_bytes, start_bytes, withdrawal_bytes}
+use Rattle.records.specs.declared.record.Message.{Message}
+use Rattle.records.specs.declared.record.Message.TheVariants.{Start, Entry, Withdrawal, Opening, Halt, Resumption, Closing}
+use Rattle.records.specs.declared.record.NoOrder.{NoOrder}
+use Rattle.records.specs.Bytes.{closing_bytes, entry_bytes, halt_bytes, letter_alone_bytes, opening_bytes, resumption_bytes, start_bytes, withdrawal_bytes}
 use Rattle.records.specs.Layout.{misfit, account_layout}
-use Rattle.records.specs.Reading.{entry, start, withdrawal, read_32, read_at}
+use Rattle.records.specs.Reading.{Reading, bytes_of, closing, entry, halt, opening, read_32, read_at, resumption, short_reading}
+use Rattle.records.proofs.KindRows.{by_letter}
 use Rattle.records.specs.Refusals.{on_ok}
 use Rattle.records.proofs.RoundTrips.{IsBytes, entry_read_again, start_read_again, withdrawal_read_again}
 
@@ -39,14 +43,31 @@ bytes_part input at n bytes i =
     (λ ge. omega (arith, get_or_past (take n (drop at input)) i 0 (omega (arith, length-take n (drop at input)))))
     (cases_lt i n)
 
+-- the number in a short record fits its four bytes
+abbrev pub NumbersFit : Message ℕ NoOrder (Unit {0}) → Type 0
+NumbersFit (Start n) = n < 2 ^ 32
+NumbersFit (Entry none account) = Unit {0}
+NumbersFit (Withdrawal n) = n < 2 ^ 32
+NumbersFit Opening = Unit {0}
+NumbersFit Halt = Unit {0}
+NumbersFit Resumption = Unit {0}
+NumbersFit Closing = Unit {0}
+
 -- what is written is read as itself
 pub entry_written : (f : EntryFields) (account b : List ℕ) → b ≡ entry_bytes f account → length account ≡ 8 → f.price < 2 ^ 32 → f.quantity < 2 ^ 32 → f.minimum < 2 ^ 32 →
     misfit account_layout account ≡ None → read_at b 0 ≡ Ok (Some (entry f account 24))
 entry_written f account b e len price quantity minimum good =
     ap (λ x. read_at x 0) e ∙ (read_at_all (entry_bytes f account) (omega arith) ∙ ap (on_ok Some) (entry_read_again f account 0 price quantity minimum good))
 
-pub start_written : (reference : ℕ) (b : List ℕ) → b ≡ start_bytes reference → reference < 2 ^ 32 → read_at b 0 ≡ Ok (Some (start reference))
-start_written n b e h = ap (λ x. read_at x 0) e ∙ (read_at_all (start_bytes n) refl ∙ ap (on_ok Some) (start_read_again n 0 h))
+-- a record that is no entry
+alone_written : (letter : ℕ) (says : Reading) (b : List ℕ) → b ≡ letter_alone_bytes letter → read_32 (letter_alone_bytes letter) 0 ≡ Ok says → read_at b 0 ≡ Ok (Some says)
+alone_written letter says b e h = ap (λ x. read_at x 0) e ∙ (read_at_all (letter_alone_bytes letter) refl ∙ ap (on_ok Some) h)
 
-pub withdrawal_written : (number : ℕ) (b : List ℕ) → b ≡ withdrawal_bytes number → number < 2 ^ 32 → read_at b 0 ≡ Ok (Some (withdrawal number))
-withdrawal_written n b e h = ap (λ x. read_at x 0) e ∙ (read_at_all (withdrawal_bytes n) refl ∙ ap (on_ok Some) (withdrawal_read_again n 0 h))
+pub short_written : (m : Message ℕ NoOrder (Unit {0})) (b : List ℕ) → b ≡ bytes_of (short_reading m) → NumbersFit m → read_at b 0 ≡ Ok (Some (short_reading m))
+short_written (Start n) b e h = ap (λ x. read_at x 0) e ∙ (read_at_all (start_bytes n) refl ∙ ap (on_ok Some) (start_read_again n 0 h))
+short_written (Entry none account) b e h = elim none [ ]
+short_written (Withdrawal n) b e h = ap (λ x. read_at x 0) e ∙ (read_at_all (withdrawal_bytes n) refl ∙ ap (on_ok Some) (withdrawal_read_again n 0 h))
+short_written Opening b e h = alone_written 79 opening b e (by_letter 79 opening_bytes 0 refl)
+short_written Halt b e h = alone_written 72 halt b e (by_letter 72 halt_bytes 0 refl)
+short_written Resumption b e h = alone_written 82 resumption b e (by_letter 82 resumption_bytes 0 refl)
+short_written Closing b e h = alone_written 67 closing b e (by_letter 67 closing_bytes 0 refl)

@@ -4,3 +4,4 @@ pub mod Numbers
 pub mod RoundTrips
 pub mod Inputs
 pub mod Laid
+pub mod Entries

@@ -1,51 +1,11 @@
--- Where the first byte that breaks its rule stands: along a loop, and what it says of each byte where there is none.
-use Rattle.std.proofs.Common.{◌≡◌, ℕ, zero, suc, ◌+◌, ◌<◌, ◌≤◌, true, false, cond, List, [], ◌∷◌, length, get_or, drop, Some, None, Option, sym, refl, ap, ◌∙◌, ⊎_elim, arith}
+-- Where the first byte that breaks its rule stands, and what it says of each byte where there is none.
+use Rattle.std.proofs.Common.{IsAscii, List, None, Option, Some, [], ap, arith, drop, false, get_or, length, lit<, refl, replicate, suc, sym, true, zero, ℕ, ⊎_elim, ◌<◌, ◌∙◌, ◌∷◌, ◌≡◌, ◌≤◌}
 use Rattle.std.specs.Option.{option_map}
-use Rattle.std.proofs.lemmas.List.{drop_more, drop_all}
-use Rattle.std.proofs.lemmas.Bool.{cases_Bool, cond-true, cond-false}
+use Rattle.std.specs.Option.{MatchOption}
+use Rattle.std.proofs.lemmas.Bool.{and_parts, cases_Bool, cond-true, cond-false, leb-true}
 use Rattle.records.specs.declared.layout.ByteRule.{ByteRule}
-use Rattle.records.specs.Layout.{fits, misfit}
-
--- the first misfit of what is left from i on, by its place in the whole
-abbrev pub misfit_from : List ByteRule → List ℕ → ℕ → Option ℕ
-misfit_from rules bytes i = option_map (λ n. i + n) (misfit (drop i rules) (drop i bytes))
-
-mapped_zero : (o : Option ℕ) → o ≡ option_map (λ n. 0 + n) o
-mapped_zero None = refl
-mapped_zero (Some n) = ap Some (omega arith)
-
-mapped_suc : (i : ℕ) (o : Option ℕ) → option_map (λ n. i + n) (option_map suc o) ≡ option_map (λ n. (i + 1) + n) o
-mapped_suc i None = refl
-mapped_suc i (Some n) = ap Some (omega arith)
-
-pub misfit_none : (rules : List ByteRule) (bytes : List ℕ) → misfit rules bytes ≡ misfit_from rules bytes 0
-misfit_none rules bytes = mapped_zero (misfit rules bytes)
-
-split : (rules : List ByteRule) (bytes : List ℕ) (i : ℕ) (r : ByteRule) → i < length rules → i < length bytes →
-    misfit_from rules bytes i ≡ option_map (λ n. i + n) (cond (fits (get_or rules i r) (get_or bytes i 0)) (option_map suc (misfit (drop (i + 1) rules) (drop (i + 1) bytes))) (Some 0))
-split rules bytes i r hr hb =
-    let er = drop_more rules i r hr in
-    let eb = drop_more bytes i 0 hb in
-    rw (er, eb) refl
-
-pub misfit_here : (rules : List ByteRule) (bytes : List ℕ) (i : ℕ) (r : ByteRule) → i < length rules → i < length bytes → fits (get_or rules i r) (get_or bytes i 0) ≡ false →
-    misfit_from rules bytes i ≡ Some i
-misfit_here rules bytes i r hr hb e =
-    split rules bytes i r hr hb ∙ (ap (option_map (λ n. i + n)) (cond-false _ _ _ e) ∙ ap Some (omega arith))
-
-pub misfit_more : (rules : List ByteRule) (bytes : List ℕ) (i : ℕ) (r : ByteRule) → i < length rules → i < length bytes → fits (get_or rules i r) (get_or bytes i 0) ≡ true →
-    misfit_from rules bytes i ≡ misfit_from rules bytes (i + 1)
-misfit_more rules bytes i r hr hb e =
-    split rules bytes i r hr hb ∙ (ap (option_map (λ n. i + n)) (cond-true _ _ _ e) ∙ mapped_suc i (misfit (drop (i + 1) rules) (drop (i + 1) bytes)))
-
-no_bytes : (rules : List ByteRule) → misfit rules [] ≡ None
-no_bytes [] = refl
-no_bytes (r ∷ rs) = refl
-
-pub misfit_all : (rules : List ByteRule) (bytes : List ℕ) (i : ℕ) → length bytes ≤ i → misfit_from rules bytes i ≡ None
-misfit_all rules bytes i h =
-    let e = drop_all i bytes h in
-    ap (λ bs. option_map (λ n. i + n) (misfit (drop i rules) bs)) e ∙ ap (option_map (λ n. i + n)) (no_bytes (drop i rules))
+use Rattle.records.specs.declared.layout.ByteRule.TheVariants.{Any, CapacityLetter, Printable}
+use Rattle.records.specs.Layout.{account_layout, entry_layout, fits, misfit}
 
 -- each byte keeps its rule
 abbrev pub Fit : List ByteRule → List ℕ → Type 0
@@ -71,9 +31,63 @@ fit_from_none (rule ∷ rules) (b ∷ bs) e =
     (λ fails. absurd (let z : ◌≡◌ {A = ℕ} 0 1 = let e2 = sym (cond-false (fits rule b) (option_map suc (misfit rules bs)) (Some 0) fails) ∙ e in cc in omega arith))
     (cases_Bool (fits rule b))
 
+-- by index
+fit_from_each : (rules : List ByteRule) (bytes : List ℕ) → ((i : ℕ) → i < length rules → i < length bytes → fits (get_or rules i Any) (get_or bytes i 0) ≡ true) → Fit rules bytes
+fit_from_each [] bs h = tt
+fit_from_each (rule ∷ rules) [] h = tt
+fit_from_each (rule ∷ rules) (b ∷ bs) h = (h 0 (omega arith) (omega arith), fit_from_each rules bs (λ i hr hb. h (suc i) (omega arith) (omega arith)))
+
+misfit_at : (rules : List ByteRule) (bytes : List ℕ) (i : ℕ) → i < length rules → i < length bytes → fits (get_or rules i Any) (get_or bytes i 0) ≡ false
+    → ((j : ℕ) → j < i → fits (get_or rules j Any) (get_or bytes j 0) ≡ true) → misfit rules bytes ≡ Some i
+misfit_at [] bs i hr hb e h = absurd (omega arith)
+misfit_at (rule ∷ rules) [] i hr hb e h = absurd (omega arith)
+misfit_at (rule ∷ rules) (b ∷ bs) zero hr hb e h = cond-false _ _ _ e
+misfit_at (rule ∷ rules) (b ∷ bs) (suc i) hr hb e h =
+    cond-true _ _ _ (h 0 (omega arith)) ∙ ap (option_map suc) (misfit_at rules bs i (omega arith) (omega arith) e (λ j l. h (suc j) (omega arith)))
+
+-- what a look along both lists tells
+abbrev pub Looked : List ByteRule → List ℕ → Option ℕ → Type 0
+Looked rules bytes found =
+    MatchOption found ((i : ℕ) → i < length rules → i < length bytes → fits (get_or rules i Any) (get_or bytes i 0) ≡ true)
+    (λ i. (i < length rules) × (i < length bytes) × (fits (get_or rules i Any) (get_or bytes i 0) ≡ false)
+    × ((j : ℕ) → j < i → fits (get_or rules j Any) (get_or bytes j 0) ≡ true))
+
+pub misfit_found : (rules : List ByteRule) (bytes : List ℕ) (found : Option ℕ) → Looked rules bytes found → found ≡ misfit rules bytes
+misfit_found rules bytes None h = sym (none_from_fit rules bytes (fit_from_each rules bytes h))
+misfit_found rules bytes (Some i) h = sym (misfit_at rules bytes i h.0 h.1 h.2 h.3)
+
 -- at an index
 pub fit_at : (rules : List ByteRule) (bytes : List ℕ) → Fit rules bytes → (i : ℕ) (r : ByteRule) → i < length rules → i < length bytes → fits (get_or rules i r) (get_or bytes i 0) ≡ true
 fit_at [] bs h i r hr hb = absurd (omega arith)
 fit_at (rule ∷ rules) [] h i r hr hb = absurd (omega arith)
 fit_at (rule ∷ rules) (b ∷ bs) h zero r hr hb = h.0
 fit_at (rule ∷ rules) (b ∷ bs) h (suc i) r hr hb = fit_at rules bs h.1 i r (omega arith) (omega arith)
+
+-- an entry's letter of capacity
+pub capacity_fits : (b : List ℕ) → length b ≡ 32 → misfit entry_layout b ≡ None → fits CapacityLetter (get_or b 20 0) ≡ true
+capacity_fits b len e = fit_at entry_layout b (fit_from_none entry_layout b e) 20 Any (lit< tt) (omega arith)
+
+-- and its account
+fit_nil : (rules : List ByteRule) → Fit rules []
+fit_nil [] = tt
+fit_nil (rule ∷ rules) = tt
+
+pub fit_drop : (rules : List ByteRule) (b : List ℕ) (n : ℕ) → Fit rules b → Fit (drop n rules) (drop n b)
+fit_drop rules b zero h = h
+fit_drop [] b (suc n) h = tt
+fit_drop (rule ∷ rules) [] (suc n) h = fit_nil (drop n rules)
+fit_drop (rule ∷ rules) (x ∷ b) (suc n) h = fit_drop rules b n h.1
+
+pub account_fits : (b : List ℕ) → misfit entry_layout b ≡ None → misfit account_layout (drop 20 (drop 4 b)) ≡ None
+account_fits b e =
+    none_from_fit account_layout (drop 20 (drop 4 b)) (fit_drop (drop 4 entry_layout) (drop 4 b) 20 (fit_drop entry_layout b 4 (fit_from_none entry_layout b e)))
+
+-- printable bytes are text
+all_ascii : (n : ℕ) (a : List ℕ) → Fit (replicate n Printable) a → length a ≤ n → IsAscii a
+all_ascii n [] h le i = omega arith
+all_ascii zero (b ∷ a) h le i = absurd (omega arith)
+all_ascii (suc n) (b ∷ a) h le zero = omega (arith, leb-true b 126 (and_parts _ _ h.0).1)
+all_ascii (suc n) (b ∷ a) h le (suc i) = all_ascii n a h.1 (omega arith) i
+
+pub printable_ascii : (account : List ℕ) → length account ≤ 8 → misfit account_layout account ≡ None → IsAscii account
+printable_ascii account short e = all_ascii 8 account (fit_from_none account_layout account e) short

@@ -2,7 +2,6 @@
 use Rattle.std.proofs.Common.{◌≡◌, ℕ, zero, suc, ◌+◌, ◌^◌, ◌<◌, true, eqb, List, [], ◌∷◌, length, get_or, take, drop, replicate, Some, None, Ok, Option, sym, refl, ap, ◌∙◌, subst, ⊎_elim, arith, lit<}
 use Rattle.std.proofs.lemmas.List.{drop-drop, drop-take}
 use Rattle.std.proofs.lemmas.Bool.{cases_Bool, cond-true, cond-false, eqb-true, or_cases}
-use Rattle.records.specs.declared.layout.ByteRule.{ByteRule}
 use Rattle.records.specs.declared.layout.ByteRule.TheVariants.{Any, Zero, SideLetter, TypeLetter, QualifierLetter, CapacityLetter}
 use Rattle.records.specs.declared.letters.Side.{Side}
 use Rattle.records.specs.declared.letters.Side.TheVariants.{Buy, Sell}
@@ -18,7 +17,7 @@ use Rattle.records.specs.Letters.{side_letter, side_of, type_letter, type_of, qu
 use Rattle.records.specs.Layout.{fits, misfit, entry_layout, one_number_layout, letter_alone_layout, account_layout}
 use Rattle.records.specs.Bytes.{entry_bytes, one_number_bytes, number_at}
 use Rattle.records.specs.Reading.{AccountIn, Reading, account_fault, start, entry, withdrawal, KindRow, kinds, bytes_of, entry_after, read_by, read_32}
-use Rattle.records.proofs.Misfits.{Fit, fit_at, fit_from_none, none_from_fit}
+use Rattle.records.proofs.Misfits.{Fit, fit_at, fit_drop, fit_from_none, none_from_fit}
 use Rattle.records.proofs.KindRows.{by_letter}
 use Rattle.records.specs.Refusals.{unless}
 use Rattle.std.specs.Option.{option_map}
@@ -167,18 +166,8 @@ part_24 : (input : List ℕ) (at : ℕ) → drop 20 (drop 4 (take 32 (drop at in
 part_24 input at =
     drop-drop 20 4 (take 32 (drop at input)) ∙ (drop-take 24 8 (drop at input) ∙ ap (take 8) (drop-drop 24 at input))
 
-fit_nil : (rules : List ByteRule) → Fit rules []
-fit_nil [] = tt
-fit_nil (rule ∷ rules) = tt
-
 account_good : (account : List ℕ) → Fit account_layout account → account_fault account ≡ Ok tt
 account_good account h = ap (λ o. unless (option_map (λ place. Byte (24 + place)) o) tt) (none_from_fit account_layout account h)
-
-account_fits : (rules : List ByteRule) (b : List ℕ) (n : ℕ) → Fit rules b → Fit (drop n rules) (drop n b)
-account_fits rules b zero h = h
-account_fits [] b (suc n) h = tt
-account_fits (rule ∷ rules) [] (suc n) h = fit_nil (drop n rules)
-account_fits (rule ∷ rules) (x ∷ b) (suc n) h = account_fits rules b n h.1
 
 -- the account lies in the input, and its bytes are in range
 pub account_lies : (input : List ℕ) (at : ℕ) (m : Reading) → read_32 (take 32 (drop at input)) at ≡ Ok m → AccountIn input m
@@ -187,7 +176,7 @@ account_lies input at m e =
     read_by_says (AccountIn input) kinds (take 32 (drop at input)) at m (
       (λ _ _. tt),
       (
-        (λ _ h. (part_24 input at, account_good (drop 20 (drop 4 (take 32 (drop at input)))) (account_fits (drop 4 entry_layout) (drop 4 (take 32 (drop at input))) 20 (account_fits entry_layout (take 32 (drop at input)) 4 h)))),
+        (λ _ h. (part_24 input at, account_good (drop 20 (drop 4 (take 32 (drop at input)))) (fit_drop (drop 4 entry_layout) (drop 4 (take 32 (drop at input))) 20 (fit_drop entry_layout (take 32 (drop at input)) 4 h)))),
         ((λ _ _. tt), ((λ _ _. tt), ((λ _ _. tt), ((λ _ _. tt), ((λ _ _. tt), tt))))),
       ),
     ) e

@@ -4,3 +4,5 @@ pub mod Letters
 pub mod Layout
 pub mod Bytes
 pub mod Reading
+pub mod Kinds
+pub mod Words

@@ -4,9 +4,11 @@ use Rattle.std.specs.Option.{option_map}
 use Rattle.records.specs.declared.fault.RecordFault.{RecordFault}
 use Rattle.records.specs.declared.fault.RecordFault.TheVariants.{Tail, Kind, Byte}
 use Rattle.records.specs.declared.layout.ByteRule.{ByteRule}
+use Rattle.records.specs.declared.record.Account.{Account}
 use Rattle.records.specs.declared.record.EntryFields.{EntryFields}
-use Rattle.records.specs.declared.record.Record.{Record}
-use Rattle.records.specs.declared.record.Record.TheVariants.{Start, Entry, Withdrawal, Opening, Halt, Resumption, Closing}
+use Rattle.records.specs.declared.record.Message.{Message}
+use Rattle.records.specs.declared.record.NoOrder.{NoOrder}
+use Rattle.records.specs.declared.record.Message.TheVariants.{Start, Entry, Withdrawal, Opening, Halt, Resumption, Closing}
 use Rattle.records.specs.Letters.{side_of, type_of, qualifier_of, capacity_of}
 use Rattle.records.specs.Refusals.{unless, on_ok}
 use Rattle.records.specs.Layout.{misfit, account_layout, entry_layout, one_number_layout, letter_alone_layout}
@@ -22,7 +24,7 @@ pub data Reading : Type 0 where
   resumption : Reading
   closing : Reading
 
-abbrev pub reading_of : Record → Reading
+abbrev pub reading_of : Message ℕ EntryFields Account → Reading
 reading_of (Start reference) = start reference
 reading_of (Entry f account) = entry f account.bytes.now account.place
 reading_of (Withdrawal number) = withdrawal number
@@ -30,6 +32,16 @@ reading_of Opening = opening
 reading_of Halt = halt
 reading_of Resumption = resumption
 reading_of Closing = closing
+
+-- what a short record says
+abbrev pub short_reading : Message ℕ NoOrder (Unit {0}) → Reading
+short_reading (Start reference) = start reference
+short_reading (Entry none account) = elim none [ ]
+short_reading (Withdrawal number) = withdrawal number
+short_reading Opening = opening
+short_reading Halt = halt
+short_reading Resumption = resumption
+short_reading Closing = closing
 
 -- the bytes that say it
 abbrev pub bytes_of : Reading → List ℕ

@@ -4,7 +4,7 @@ ghost use Rattle.records.specs.Refusals.{record_row, row_of};
 
 use crate::refusal::Refusal;
 
-#[derive(Clone, Copy)]
+#[derive(Clone, Copy, PartialEq, Eq, Debug)]
 pub enum RecordFault {
     // The file ends inside the record.
     Tail,
@@ -14,11 +14,11 @@ pub enum RecordFault {
     Byte(usize),
 }
 
-impl RecordFault {
-    pub fn refusal(self) -> Refusal
-        ensures { row_of result ≡ record_row self }
-    {
-        let (number, word, byte) = match self {
+impl From<RecordFault> for Refusal {
+    ghost from_gives = { λ fault r. row_of r ≡ record_row fault };
+
+    fn from(fault: RecordFault) -> Refusal {
+        let (number, word, byte) = match fault {
             RecordFault::Tail => (1, "TAIL", 0),
             RecordFault::Kind => (2, "KIND", 0),
             RecordFault::Byte(place) => (3, "BYTE", place),

@@ -1,8 +1,10 @@
 // What each byte of a record may be, by the record's kind.
-ghost use Rattle.std.specs.Prelude.{◌≡◌, length};
+ghost use Rattle.std.specs.Prelude.{◌≡◌};
 ghost use Rattle.records.specs.Layout.{fits, misfit};
 
-#[derive(Clone, Copy)]
+use crate::letters::{Capacity, OrderType, Qualifier, Side};
+
+#[derive(Clone, Copy, PartialEq, Eq, Debug)]
 pub enum ByteRule {
     Any,
     Zero,
@@ -76,10 +78,10 @@ impl ByteRule {
         match self {
             Any => true,
             Zero => byte == 0,
-            SideLetter => byte == b'B' || byte == b'S',
-            TypeLetter => byte == b'L' || byte == b'M',
-            QualifierLetter => byte == b'N' || byte == b'F' || byte == b'I',
-            CapacityLetter => byte == b'I' || byte == b'D',
+            SideLetter => Side::try_from(byte).is_ok(),
+            TypeLetter => OrderType::try_from(byte).is_ok(),
+            QualifierLetter => Qualifier::try_from(byte).is_ok(),
+            CapacityLetter => Capacity::try_from(byte).is_ok(),
             Printable => 0x21 <= byte && byte <= 0x7E,
         }
     }
@@ -87,13 +89,10 @@ impl ByteRule {
 
 // The place of the first byte that breaks its rule.
 pub(crate) fn first_misfit(rules: &[ByteRule], bytes: &[u8]) -> Option<usize>
-    requires { length rules.now ≡ length bytes.now }
     ensures { result ≡ misfit rules.now bytes.now }
 {
-    for (place, byte) in bytes.iter().enumerate() {
-        if !rules[place].fits(*byte) {
-            return Some(place);
-        }
-    }
-    None
+    rules
+        .iter()
+        .zip(bytes)
+        .position(|(rule, byte)| !rule.fits(*byte))
 }

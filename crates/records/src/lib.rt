@@ -9,14 +9,12 @@ mod record;
 mod refusal;
 #[cfg(test)]
 mod tests;
+mod words;
 mod writing;
 
 pub use fault::RecordFault;
-pub use letters::{Capacity, OrderType, Qualifier, Side};
+pub use letters::{Capacity, Kind, NoLetter, OrderType, Qualifier, Side};
 pub use reading::read_record;
-pub use record::{Account, EntryFields, Record};
+pub use record::{Account, EntryFields, Message, NoOrder, Record, ShortRecord};
 pub use refusal::Refusal;
-pub use writing::{
-    write_closing, write_entry, write_halt, write_opening, write_resumption, write_start,
-    write_withdrawal,
-};
+pub use writing::{write_entry, write_short};

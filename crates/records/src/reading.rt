@@ -1,95 +1,119 @@
 // Reading a record.
-ghost use Rattle.std.specs.Prelude.{◌≡◌, ◌+◌, ◌^◌, ◌<◌, ◌≤◌, length, take, drop};
-ghost use Rattle.records.specs.Bytes.{number_at};
-ghost use Rattle.records.specs.Layout.{misfit};
+ghost use Rattle.std.specs.Prelude.{◌≡◌, ◌+◌, ◌^◌, ◌<◌, None, take, drop, slice_index};
+ghost use Rattle.std.specs.Option.{option_map};
+ghost use Rattle.records.specs.Kinds.{kind_layout};
+ghost use Rattle.records.specs.Layout.{entry_layout, misfit};
 ghost use Rattle.records.specs.Refusals.{on_ok, unless};
 ghost use Rattle.records.specs.declared.fault.RecordFault.TheVariants.{Byte};
-ghost use Rattle.std.specs.Option.{option_map};
 ghost use Rattle.records.specs.Reading.{Accepted, AccountIn, bytes_of, entry_after, read_32, read_at, reading_of};
 
 use crate::fault::RecordFault;
 use crate::layout::{ByteRule, ENTRY, LETTER_ALONE, ONE_NUMBER, first_misfit};
-use crate::letters::{Capacity, OrderType, Qualifier, Side};
+use crate::letters::{Capacity, Kind, OrderType, Qualifier, Side};
 use crate::record::{Account, EntryFields, Record};
 
-// The number in the four bytes from `at`, high byte first.
-fn number_from(bytes: &[u8], at: usize) -> u32
-    requires { at + 4 ≤ length bytes.now }
-    ensures { result ≡ number_at bytes.now at }
-{
-    u32::from_be_bytes([bytes[at], bytes[at + 1], bytes[at + 2], bytes[at + 3]])
+impl Kind {
+    fn layout(self) -> &'static [ByteRule; 32]
+        ensures { result.now ≡ kind_layout self }
+    {
+        match self {
+            Kind::Entry => &ENTRY,
+            Kind::Start | Kind::Withdrawal => &ONE_NUMBER,
+            Kind::Opening | Kind::Halt | Kind::Resumption | Kind::Closing => &LETTER_ALONE,
+        }
+    }
 }
 
-// What the bytes say, unless one of them breaks its rule.
-fn checked<'a>(
-    rules: &[ByteRule; 32],
-    bytes: &[u8],
-    says: Record<'a>,
-) -> Result<Record<'a>, RecordFault>
-    requires { length bytes.now ≡ 32 }
-    ensures { on_ok reading_of result ≡ unless (option_map Byte (misfit rules.now bytes.now)) (reading_of says.entry) }
+// Refuses the first byte that breaks its rule.
+fn check(rules: &[ByteRule; 32], bytes: &[u8; 32]) -> Result<(), RecordFault>
+    ensures { result ≡ unless (option_map Byte (misfit rules.now bytes.now)) tt }
 {
     match first_misfit(rules, bytes) {
-        None => Ok(says),
+        None => Ok(()),
         Some(place) => Err(RecordFault::Byte(place)),
     }
 }
 
-// The account, which ends what follows the letters of an entry that begins at `at` in the input.
-fn account_from<'a>(body: &'a [u8], at: usize) -> Account<'a>
-    requires { (length body.now ≡ 28) × (at + 32 < 2 ^ 64) }
-    ensures bytes { result.bytes.now ≡ drop 20 body.now }
-    ensures place { result.place ≡ at + 24 }
-{
-    let (_, bytes) = body.split_at(20);
-    Account {
-        bytes,
-        place: at + 24,
+// The 32 bytes of a record, and where in the input they begin.
+#[derive(Clone, Copy)]
+struct Laid<'a> {
+    bytes: &'a [u8; 32],
+    at: usize,
+    ghost room: { at + 32 < 2 ^ 64 },
+}
+
+impl<'a> Laid<'a> {
+    // The account, where the bytes keep an entry's layout.
+    fn account(self) -> Account<'a>
+        requires { misfit entry_layout self.bytes.now ≡ None }
+        ensures bytes { result.bytes.now ≡ drop 20 (drop 4 self.entry.bytes.now) }
+        ensures place { result.place ≡ self.entry.at + 24 }
+    {
+        let Laid { bytes, at } = self;
+        Account {
+            bytes: bytes.last_chunk().unwrap(),
+            place: at + 24,
+        }
     }
-}
 
-// The entry with these letters, and with the numbers, the capacity and the account that follow them.
-fn entry_from<'a>(side: u8, order_type: u8, qualifier: u8, body: &'a [u8], at: usize) -> Record<'a>
-    requires { (length body.now ≡ 28) × (at + 32 < 2 ^ 64) }
-    ensures { reading_of result ≡ entry_after side order_type qualifier body.now at }
-{
-    let fields = EntryFields {
-        side: Side::of_letter(side),
-        order_type: OrderType::of_letter(order_type),
-        qualifier: Qualifier::of_letter(qualifier),
-        price: number_from(body, 0),
-        quantity: number_from(body, 4),
-        minimum: number_from(body, 12),
-        capacity: Capacity::of_letter(body[16]),
-    };
-    Record::Entry(fields, account_from(body, at))
-}
+    // The entry, where the bytes keep its layout.
+    fn entry(self) -> Record<'a>
+        requires { misfit entry_layout self.bytes.now ≡ None }
+        ensures { reading_of result ≡ entry_after (slice_index self.entry.bytes.now 1) (slice_index self.entry.bytes.now 2) (slice_index self.entry.bytes.now 3) (drop 4 self.entry.bytes.now) self.entry.at }
+    {
+        let [
+            _,
+            side,
+            order_type,
+            qualifier,
+            p0,
+            p1,
+            p2,
+            p3,
+            q0,
+            q1,
+            q2,
+            q3,
+            _,
+            _,
+            _,
+            _,
+            m0,
+            m1,
+            m2,
+            m3,
+            capacity,
+            ..
+        ] = self.bytes;
+        let fields = EntryFields {
+            side: Side::try_from(*side).unwrap(),
+            order_type: OrderType::try_from(*order_type).unwrap(),
+            qualifier: Qualifier::try_from(*qualifier).unwrap(),
+            price: u32::from_be_bytes([*p0, *p1, *p2, *p3]),
+            quantity: u32::from_be_bytes([*q0, *q1, *q2, *q3]),
+            minimum: u32::from_be_bytes([*m0, *m1, *m2, *m3]),
+            capacity: Capacity::try_from(*capacity).unwrap(),
+        };
+        Record::Entry(fields, self.account())
+    }
 
-// What the 32 bytes say, which begin at `at` in the input.
-fn read_32<'a>(bytes: &'a [u8], at: usize) -> Result<Record<'a>, RecordFault>
-    requires { (length bytes.now ≡ 32) × (at + 32 < 2 ^ 64) }
-    ensures { on_ok reading_of result ≡ read_32 bytes.now at }
-{
-    let [kind, side, order_type, qualifier, body @ ..] = bytes else {
-        return Err(RecordFault::Tail);
-    };
-    match *kind {
-        b'D' => checked(&ONE_NUMBER, bytes, Record::Start(number_from(bytes, 4))),
-        b'E' => checked(
-            &ENTRY,
-            bytes,
-            entry_from(*side, *order_type, *qualifier, body, at),
-        ),
-        b'W' => checked(
-            &ONE_NUMBER,
-            bytes,
-            Record::Withdrawal(number_from(bytes, 4)),
-        ),
-        b'O' => checked(&LETTER_ALONE, bytes, Record::Opening),
-        b'H' => checked(&LETTER_ALONE, bytes, Record::Halt),
-        b'R' => checked(&LETTER_ALONE, bytes, Record::Resumption),
-        b'C' => checked(&LETTER_ALONE, bytes, Record::Closing),
-        _ => Err(RecordFault::Kind),
+    // What the bytes say.
+    fn read(self) -> Result<Record<'a>, RecordFault>
+        ensures { on_ok reading_of result ≡ read_32 self.entry.bytes.now self.entry.at }
+    {
+        let [letter, _, _, _, n0, n1, n2, n3, ..] = self.bytes;
+        let kind = Kind::try_from(*letter).map_err(|_| RecordFault::Kind)?;
+        check(kind.layout(), self.bytes)?;
+        let number = u32::from_be_bytes([*n0, *n1, *n2, *n3]);
+        Ok(match kind {
+            Kind::Start => Record::Start(number),
+            Kind::Entry => self.entry(),
+            Kind::Withdrawal => Record::Withdrawal(number),
+            Kind::Opening => Record::Opening,
+            Kind::Halt => Record::Halt,
+            Kind::Resumption => Record::Resumption,
+            Kind::Closing => Record::Closing,
+        })
     }
 }
 
@@ -102,9 +126,8 @@ pub fn read_record<'a>(input: &'a [u8], at: usize) -> Result<Option<Record<'a>>,
     if at >= input.len() {
         return Ok(None);
     }
-    let rest = &input[at..];
-    if rest.len() < 32 {
+    let Some((bytes, _)) = input[at..].split_first_chunk() else {
         return Err(RecordFault::Tail);
-    }
-    Ok(Some(read_32(&rest[0..32], at)?))
+    };
+    Ok(Some(Laid { bytes, at }.read()?))
 }

@@ -1,15 +1,19 @@
 // What a record says.
+ghost use Rattle.std.specs.Prelude.{◌≡◌, None};
+ghost use Rattle.records.specs.Layout.{account_layout, misfit};
+
 use crate::letters::{Capacity, OrderType, Qualifier, Side};
 
-// The account of an entry: a part of the input, and where in the input it begins.
-#[derive(Clone, Copy)]
+// The account of an entry, whose bytes are printable: a part of the input, and where in the input it begins.
+#[derive(Clone, Copy, PartialEq, Eq, Debug)]
 pub struct Account<'a> {
-    pub bytes: &'a [u8],
+    pub bytes: &'a [u8; 8],
     pub place: usize,
+    ghost printable: { misfit account_layout bytes.now ≡ None },
 }
 
 // An entry's fields as they stand in the record; whether they make an order is not looked at.
-#[derive(Clone, Copy)]
+#[derive(Clone, Copy, PartialEq, Eq, Debug)]
 pub struct EntryFields {
     pub side: Side,
     pub order_type: OrderType,
@@ -20,11 +24,12 @@ pub struct EntryFields {
     pub capacity: Capacity,
 }
 
-#[derive(Clone, Copy)]
-pub enum Record<'a> {
+// One of the seven kinds of message, with its reference, its order and its account at the stage they have reached.
+#[derive(Clone, Copy, PartialEq, Eq, Debug)]
+pub enum Message<R, O, A> {
     // With the reference.
-    Start(u32),
-    Entry(EntryFields, Account<'a>),
+    Start(R),
+    Entry(O, A),
     // With the order's number.
     Withdrawal(u32),
     Opening,
@@ -32,3 +37,12 @@ pub enum Record<'a> {
     Resumption,
     Closing,
 }
+
+pub type Record<'a> = Message<u32, EntryFields, Account<'a>>;
+
+// No value: the order of a record that cannot be an entry.
+#[derive(Clone, Copy)]
+pub enum NoOrder {}
+
+// A record with no account, in which nothing can be refused.
+pub type ShortRecord = Message<u32, NoOrder, ()>;

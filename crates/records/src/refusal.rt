@@ -4,7 +4,7 @@ ghost use Rattle.records.specs.RefusalText.{refusal_text};
 
 use std::fmt;
 
-#[derive(Clone, Copy)]
+#[derive(Clone, Copy, PartialEq, Eq, Debug)]
 pub struct Refusal {
     pub number: u8,
     pub word: &'static str,
@@ -16,10 +16,12 @@ impl fmt::Display for Refusal {
     ghost output = { λ r. Some (refusal_text r.number r.word.now r.layer r.byte) };
 
     fn fmt<W: fmt::Write>(&self, f: &mut fmt::Formatter<W>) -> fmt::Result {
-        let number = self.number;
-        let word = self.word;
-        let layer = self.layer;
-        let byte = self.byte;
+        let Refusal {
+            number,
+            word,
+            layer,
+            byte,
+        } = *self;
         write!(f, "{number} {word}, layer {layer}, byte {byte}")
     }
 }

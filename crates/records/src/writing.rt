@@ -1,11 +1,13 @@
 // Writing a record.
 ghost use Rattle.std.specs.Prelude.{◌≡◌, is_ok, if◌then◌else◌, Some, Ok, OnOk};
-ghost use Rattle.records.specs.Bytes.{closing_bytes, entry_bytes, halt_bytes, letter_alone_bytes, one_number_bytes, opening_bytes, resumption_bytes, start_bytes, withdrawal_bytes};
-ghost use Rattle.records.specs.Reading.{account_fault, entry, read_at, start, withdrawal};
+ghost use Rattle.records.specs.Bytes.{entry_bytes, letter_alone_bytes, one_number_bytes};
+ghost use Rattle.records.specs.Kinds.{kind_letter};
+ghost use Rattle.records.specs.Reading.{account_fault, bytes_of, entry, read_at, short_reading};
 
 use crate::fault::RecordFault;
 use crate::layout::{ACCOUNT, first_misfit};
-use crate::record::EntryFields;
+use crate::letters::Kind;
+use crate::record::{EntryFields, ShortRecord};
 
 fn entry_in_bytes(fields: EntryFields, account: &[u8; 8]) -> [u8; 32]
     ensures { result ≡ entry_bytes fields account.now }
@@ -14,12 +16,13 @@ fn entry_in_bytes(fields: EntryFields, account: &[u8; 8]) -> [u8; 32]
     let [q0, q1, q2, q3] = fields.quantity.to_be_bytes();
     let [m0, m1, m2, m3] = fields.minimum.to_be_bytes();
     let [a0, a1, a2, a3, a4, a5, a6, a7] = *account;
-    let side = fields.side.letter();
-    let order_type = fields.order_type.letter();
-    let qualifier = fields.qualifier.letter();
-    let capacity = fields.capacity.letter();
+    let kind = Kind::Entry.into();
+    let side = fields.side.into();
+    let order_type = fields.order_type.into();
+    let qualifier = fields.qualifier.into();
+    let capacity = fields.capacity.into();
     [
-        b'E', side, order_type, qualifier, p0, p1, p2, p3, q0, q1, q2, q3, 0, 0, 0, 0, m0, m1, m2,
+        kind, side, order_type, qualifier, p0, p1, p2, p3, q0, q1, q2, q3, 0, 0, 0, 0, m0, m1, m2,
         m3, capacity, 0, 0, 0, a0, a1, a2, a3, a4, a5, a6, a7,
     ]
 }
@@ -41,57 +44,66 @@ pub fn write_entry(
     Ok(())
 }
 
-fn write_number(letter: u8, n: u32, out: &mut [u8; 32])
-    ensures { out.new ≡ one_number_bytes letter n }
+fn one_number(kind: Kind, n: u32) -> [u8; 32]
+    ensures { result ≡ one_number_bytes (kind_letter kind) n }
 {
     let [n0, n1, n2, n3] = n.to_be_bytes();
-    *out = [
-        letter, 0, 0, 0, n0, n1, n2, n3, 0, 0, 0, 0, 0, 0, 0, 0, 0, 0, 0, 0, 0, 0, 0, 0, 0, 0, 0,
-        0, 0, 0, 0, 0,
-    ];
+    [
+        kind.into(),
+        0,
+        0,
+        0,
+        n0,
+        n1,
+        n2,
+        n3,
+        0,
+        0,
+        0,
+        0,
+        0,
+        0,
+        0,
+        0,
+        0,
+        0,
+        0,
+        0,
+        0,
+        0,
+        0,
+        0,
+        0,
+        0,
+        0,
+        0,
+        0,
+        0,
+        0,
+        0,
+    ]
 }
 
-fn write_letter(letter: u8, out: &mut [u8; 32])
-    ensures { out.new ≡ letter_alone_bytes letter }
+fn letter_alone(kind: Kind) -> [u8; 32]
+    ensures { result ≡ letter_alone_bytes (kind_letter kind) }
 {
-    *out = [0; 32];
-    out[0] = letter;
+    let mut bytes = [0; 32];
+    bytes[0] = kind.into();
+    bytes
 }
 
-pub fn write_start(reference: u32, out: &mut [u8; 32])
-    ensures after { out.new ≡ start_bytes reference }
-    ensures read { read_at out.new 0 ≡ Ok (Some (start reference)) }
+// Fills the 32 bytes with the record.
+pub fn write_short(short: ShortRecord, out: &mut [u8; 32])
+    ensures after { out.new ≡ bytes_of (short_reading short) }
+    ensures read { read_at out.new 0 ≡ Ok (Some (short_reading short)) }
 {
-    write_number(b'D', reference, out)
-}
-
-pub fn write_withdrawal(number: u32, out: &mut [u8; 32])
-    ensures after { out.new ≡ withdrawal_bytes number }
-    ensures read { read_at out.new 0 ≡ Ok (Some (withdrawal number)) }
-{
-    write_number(b'W', number, out)
-}
-
-pub fn write_opening(out: &mut [u8; 32])
-    ensures { out.new ≡ opening_bytes }
-{
-    write_letter(b'O', out)
-}
-
-pub fn write_halt(out: &mut [u8; 32])
-    ensures { out.new ≡ halt_bytes }
-{
-    write_letter(b'H', out)
-}
-
-pub fn write_resumption(out: &mut [u8; 32])
-    ensures { out.new ≡ resumption_bytes }
-{
-    write_letter(b'R', out)
-}
-
-pub fn write_closing(out: &mut [u8; 32])
-    ensures { out.new ≡ closing_bytes }
-{
-    write_letter(b'C', out)
+    *out = match short {
+        ShortRecord::Start(reference) => one_number(Kind::Start, reference),
+        ShortRecord::Entry(order, _) => match order {},
+        ShortRecord::Withdrawal(number) => one_number(Kind::Withdrawal, number),
+        ShortRecord::Opening => letter_alone(Kind::Opening),
+        ShortRecord::Halt => letter_alone(Kind::Halt),
+        ShortRecord::Resumption => letter_alone(Kind::Resumption),
+        ShortRecord::Closing => letter_alone(Kind::Closing),
+    };
 }

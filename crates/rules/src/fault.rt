@@ -6,11 +6,11 @@ ghost use Rattle.rules.specs.Refusals.{book_row};
 use crate::terms::BookFault;
 use records::Refusal;
 
-impl BookFault {
-    pub fn refusal(self) -> Refusal
-        ensures { row_of result ≡ book_row self }
-    {
-        let (number, word) = match self {
+impl From<BookFault> for Refusal {
+    ghost from_gives = { λ fault r. row_of r ≡ book_row fault };
+
+    fn from(fault: BookFault) -> Refusal {
+        let (number, word) = match fault {
             BookFault::Turn => (8, "TURN"),
             BookFault::Spent => (9, "SPENT"),
             BookFault::Band => (10, "BAND"),

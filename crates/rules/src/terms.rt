@@ -1,7 +1,7 @@
 // The words that the book's rules and the book share.
 use prices::Price;
 
-#[derive(Clone, Copy)]
+#[derive(Clone, Copy, PartialEq, Eq, Debug)]
 pub enum Status {
     PreOpen,
     Calling,
@@ -11,7 +11,7 @@ pub enum Status {
 }
 
 // A trade on the tape: the two orders by number, the price and the shares.
-#[derive(Clone, Copy)]
+#[derive(Clone, Copy, PartialEq, Eq, Debug)]
 pub struct Trade {
     pub buyer: u32,
     pub seller: u32,
@@ -20,7 +20,7 @@ pub struct Trade {
 }
 
 // The faults of the book layer.
-#[derive(Clone, Copy)]
+#[derive(Clone, Copy, PartialEq, Eq, Debug)]
 pub enum BookFault {
     Turn,
     Spent,

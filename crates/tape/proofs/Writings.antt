@@ -3,10 +3,10 @@ use Rattle.std.proofs.Common.{◌≡◌, ℕ, ◌+◌, ◌<◌, ◌≤◌, Bool,
 use Rattle.std.proofs.lemmas.List.{append_assoc, length_push}
 use Rattle.std.proofs.lemmas.Bool.{cond-true, lt-ltb}
 use Rattle.ordered_run.specs.Run.{laid}
+use Rattle.ordered_run.proofs.Slots.{laid_again, laid_same}
 use Rattle.rules.specs.declared.terms.Trade.{Trade}
 use Rattle.tape.specs.declared.Tape.{Tape}
-use Rattle.tape.specs.Written.{free, memory, written}
-use Rattle.tape.proofs.Places.{laid_again, laid_same}
+use Rattle.tape.specs.Written.{free, lender, memory, written}
 
 -- where a place is free, the trade is written
 wrote : (t u : Tape) (x : Trade) (r : Bool) → 0 < free t → r ≡ ltb 0 (free t) → written u ≡ cond r (written t ++ x ∷ []) (written t) → written u ≡ written t ++ x ∷ []
@@ -20,7 +20,7 @@ free_less t u x l e room = omega (arith, ap length e ∙ length_push (written t)
 pub record Writing (t u : Tape) (all left : List Trade) (n : ℕ) : Type 0 where
   pub goes : written u ++ left ≡ written t ++ all
   pub past : memory u ≡ laid (written u) (memory t)
-  pub lent : u.places.ghost_name ≡ t.places.ghost_name
+  pub lent : lender u ≡ lender t
   pub room : n ≤ free u
 
 pub begins : (t : Tape) (all : List Trade) (n : ℕ) → n ≤ free t → Writing t t all all n
@@ -33,7 +33,7 @@ pub writes :
     → written v ≡ cond r (written u ++ x ∷ []) (written u)
     → memory v ≡ laid (written v) (memory u)
     → length (memory v) ≡ length (memory u)
-    → v.places.ghost_name ≡ u.places.ghost_name
+    → lender v ≡ lender u
     → left ≡ x ∷ more
     → m < n
     → Writing t v all more m

@@ -1,5 +1,6 @@
 -- What a tape means: its trades, its memory and its free places. Assumes nothing.
 use Rattle.std.specs.Prelude.{ℕ, ◌-◌, List, length, take}
+use Rattle.std.specs.Borrow.{GName}
 use Rattle.rules.specs.declared.terms.Trade.{Trade}
 use Rattle.tape.specs.declared.Tape.{Tape}
 
@@ -11,3 +12,7 @@ written t = take t.used t.places.now
 
 abbrev pub free : Tape → ℕ
 free t = length (memory t) - length (written t)
+
+-- which reference the memory was lent by
+abbrev pub lender : Tape → GName
+lender t = t.places.ghost_name

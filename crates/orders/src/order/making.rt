@@ -12,26 +12,14 @@ use crate::order::Order;
 use prices::Price;
 use records::{Capacity, EntryFields, OrderType, Qualifier, Side};
 
-// The price that a start record or a limit order gives.
-pub fn checked_price(units: u32) -> Result<Price, OrderFault>
-    ensures { on_ok price_of result ≡ (if lawful_price units then Ok units else Err OrderFault.Price) }
-{
-    Price::new(units).ok_or(OrderFault::Price)
-}
-
 // The limit, which a market order has none of.
 fn checked_limit(order_type: OrderType, units: u32) -> Result<Option<Price>, OrderFault>
     ensures { on_ok limit_fields result ≡ (if price_rule order_type units then Ok (order_type, units) else Err OrderFault.Price) }
 {
     match order_type {
-        OrderType::Limit => Ok(Some(checked_price(units)?)),
-        OrderType::Market => {
-            if units == 0 {
-                Ok(None)
-            } else {
-                Err(OrderFault::Price)
-            }
-        }
+        OrderType::Limit => Ok(Some(Price::try_from(units)?)),
+        OrderType::Market if units == 0 => Ok(None),
+        OrderType::Market => Err(OrderFault::Price),
     }
 }
 
@@ -56,51 +44,60 @@ fn keeps_mix_rule(order_type: OrderType, qualifier: Qualifier, minimum: u32) -> 
     }
 }
 
-impl Order {
-    // The order that an entry's fields make, or the lowest refusal that fits.
-    pub fn new(fields: EntryFields) -> Result<Order, OrderFault>
-        ensures { on_ok fields_of result ≡ unless (order_fault fields) fields }
-    {
-        let limit = checked_limit(fields.order_type, fields.price)?;
-        let quantity = fields.quantity;
-        let minimum = fields.minimum;
-        let qualifier = fields.qualifier;
+// The order that an entry's fields make, or the lowest refusal that fits.
+impl TryFrom<EntryFields> for Order {
+    type Error = OrderFault;
+
+    ghost try_from_gives = { λ fields r. on_ok fields_of r ≡ unless (order_fault fields) fields };
+
+    fn try_from(fields: EntryFields) -> Result<Order, OrderFault> {
+        let EntryFields {
+            side,
+            order_type,
+            qualifier,
+            price,
+            quantity,
+            minimum,
+            capacity,
+        } = fields;
+        let limit = checked_limit(order_type, price)?;
         if !keeps_quantity_rule(quantity) {
             return Err(OrderFault::Quantity);
         }
         if !keeps_minimum_rule(quantity, minimum) {
             return Err(OrderFault::Minimum);
         }
-        if !keeps_mix_rule(fields.order_type, qualifier, minimum) {
+        if !keeps_mix_rule(order_type, qualifier, minimum) {
             return Err(OrderFault::Mix);
         }
         Ok(Order {
-            side: fields.side,
+            side,
             limit,
             qualifier,
             quantity,
             minimum,
-            capacity: fields.capacity,
+            capacity,
         })
     }
+}
 
-    pub fn fields(self) -> EntryFields
-        ensures { result ≡ fields_of self }
-    {
+impl From<Order> for EntryFields {
+    ghost from_gives = { λ order r. r ≡ fields_of order };
+
+    fn from(order: Order) -> EntryFields {
         EntryFields {
-            side: self.side,
-            order_type: self.order_type(),
-            qualifier: self.qualifier,
-            price: match self.limit {
-                Some(price) => price.units(),
-                None => 0,
-            },
-            quantity: self.quantity,
-            minimum: self.minimum,
-            capacity: self.capacity,
+            side: order.side,
+            order_type: order.order_type(),
+            qualifier: order.qualifier,
+            price: order.limit.map_or(0, |price| price.units()),
+            quantity: order.quantity,
+            minimum: order.minimum,
+            capacity: order.capacity,
         }
     }
+}
 
+impl Order {
     pub fn side(self) -> Side
         ensures { result ≡ self.side }
     {

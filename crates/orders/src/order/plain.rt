@@ -1,4 +1,4 @@
-// The plain order: a limit order with no qualifier and no minimum, as a type apart.
+// The plain order: a limit order with no qualifier and no minimum, as a type apart, since its price is no `Option`.
 ghost use Rattle.std.specs.Prelude.{◌≡◌, true};
 ghost use Rattle.orders.specs.Rules.{quantity_rule};
 
@@ -7,7 +7,7 @@ use records::{Capacity, Side};
 
 mod turning;
 
-#[derive(Clone, Copy)]
+#[derive(Clone, Copy, PartialEq, Eq, Debug)]
 pub struct PlainOrder {
     side: Side,
     price: Price,
@@ -15,3 +15,7 @@ pub struct PlainOrder {
     capacity: Capacity,
     ghost lot: { quantity_rule quantity ≡ true },
 }
+
+// An order that has no limit, or a qualifier or a minimum.
+#[derive(Clone, Copy, PartialEq, Eq, Debug)]
+pub struct NotPlain;

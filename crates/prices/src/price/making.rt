@@ -1,9 +1,10 @@
 // Making a price from a number, and reading it back.
 ghost use Rattle.std.specs.Prelude.{◌≡◌, if◌then◌else◌, Some, None};
 ghost use Rattle.std.specs.Option.{option_map};
+ghost use Rattle.std.specs.Result.{result_ok};
 ghost use Rattle.prices.specs.Rule.{lawful_by, lawful_price};
 
-use crate::price::Price;
+use crate::price::{NoPrice, Price};
 use crate::steps::{StepRow, house_steps, step_at};
 
 fn is_lawful(rows: &[StepRow], units: u32) -> bool
@@ -13,18 +14,23 @@ fn is_lawful(rows: &[StepRow], units: u32) -> bool
     1 <= units && units <= 10_000_000 && 0 < step && units % step == 0
 }
 
-impl Price {
-    // The price of so many units of 0.0001, if the rule has one there.
-    pub fn new(units: u32) -> Option<Price>
-        ensures { option_map (λ p. p.units) result ≡ (if lawful_price units then Some units else None) }
-    {
+// The price of so many units of 0.0001, if the rule has one there.
+impl TryFrom<u32> for Price {
+    type Error = NoPrice;
+
+    ghost try_from_gives = { λ units r. option_map (λ p. p.units) (result_ok r) ≡ (if lawful_price units then Some units else None) };
+
+    #[tactic(auto, unfolding(crate::specs::Rule::lawful_price))]
+    fn try_from(units: u32) -> Result<Price, NoPrice> {
         if is_lawful(&house_steps(), units) {
-            Some(Price { units })
+            Ok(Price { units })
         } else {
-            None
+            Err(NoPrice)
         }
     }
+}
 
+impl Price {
     pub fn units(self) -> u32
         ensures { result ≡ self.units }
     {

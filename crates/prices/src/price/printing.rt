@@ -10,12 +10,8 @@ impl fmt::Display for Price {
     ghost output = { λ p. Some (price_text p.units) };
 
     fn fmt<W: fmt::Write>(&self, f: &mut fmt::Formatter<W>) -> fmt::Result {
-        let units = self.units;
-        let whole = units / 10_000;
-        let tenths = units / 1_000 % 10;
-        let hundredths = units / 100 % 10;
-        let thousandths = units / 10 % 10;
-        let last = units % 10;
-        write!(f, "{whole}.{tenths}{hundredths}{thousandths}{last}")
+        let whole = self.units / 10_000;
+        let places = self.units % 10_000;
+        write!(f, "{whole}.{places:04}")
     }
 }

@@ -6,7 +6,7 @@ use Rattle.orders.proofs.writing.write_reference.Goals as goal
 
 pub returns : goal.returns
 returns c = record {
-  after = c.write_start.ensures.after ∙ ap start_bytes c.units.ensures;
-  read = reference_accepted c.args.reference c.write_start.new.out
-      (subst (λ n. read_at c.write_start.new.out 0 ≡ Ok (Some (start n))) c.units.ensures c.write_start.ensures.read);
+  after = c.write_short.ensures.after ∙ ap start_bytes c.units.ensures;
+  read = reference_accepted c.args.reference c.write_short.new.out
+      (subst (λ n. read_at c.write_short.new.out 0 ≡ Ok (Some (start n))) c.units.ensures c.write_short.ensures.read);
 }
