@@ -3,6 +3,7 @@ ghost use Rattle.std.specs.Prelude.{◌≡◌, ℕ, Bool};
 ghost use Rattle.std.specs.Ordering.{is_lt, nat_cmp, ordering_then};
 ghost use Rattle.std.proofs.Common.{rules};
 ghost use Rattle.orders.specs.declared.order.Order.{Order};
+ghost use Rattle.ordered_run.specs.Ranking.{Ranking};
 ghost use Rattle.lines.specs.Rank.{capacity_tie, number_tie};
 
 use orders::Order;
@@ -20,6 +21,12 @@ pub trait Class: Ord + Copy {
     // The lower class precedes, and within one class the lower number.
     ghost ties: { (c d : Self) (m n : ℕ) → is_lt (ordering_then (Self.cmp c d) (nat_cmp m n)) ≡ tie c d m n };
 }
+
+// Whatever is ranked, the tie of a class is a ranking by number.
+#[tactic(auto, using(crate::specs::Ranks::ranking_by_class))]
+pub fn ties_are_rankings<C: Class, X>()
+    ensures { (number : X → ℕ) (class : X → C) → Ranking number (λ x y. C.tie (class x) (class y) (number x) (number y)) }
+{}
 
 // The one class of all orders.
 #[derive(Clone, Copy, PartialEq, Eq, PartialOrd, Ord)]

@@ -11,7 +11,7 @@ mod resting;
 #[cfg(test)]
 mod tests;
 
-pub use class::{Alike, Class};
+pub use class::{Alike, Class, ties_are_rankings};
 pub use level::PriceLevel;
 pub use line::{Line, MoreThanLeft};
 pub use queued::Queued;

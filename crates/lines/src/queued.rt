@@ -1,4 +1,4 @@
-// A line as a ranked thing, whatever its kind.
+// A line as a ranked thing, whatever its kind. `Ranked` is no supertrait of `Line`: the laws of a market are about a `Kind`, and key and rank would stand twice with an equation to join them.
 ghost use Rattle.std.proofs.Common.{rules};
 
 use crate::line::Line;

@@ -1,7 +1,7 @@
 // A resting order, of any class.
 ghost use Rattle.std.specs.Prelude.{◌≡◌};
 ghost use Rattle.lines.specs.Kinds.{capacity_kind, kind_of, time_kind};
-ghost use Rattle.lines.specs.Ranks.{ranking_by_class};
+ghost use Rattle.lines.specs.Ranks.{ranking_by_class, ranking_by_price};
 ghost use Rattle.std.proofs.Common.{rules};
 
 use crate::class::{Alike, Class};
@@ -56,7 +56,7 @@ impl<C: Class> Line for Resting<C> {
 
     ghost making = { Prim.search rules };
 
-    ghost ranking = { ranking_by_class C.total C.of C.tie C.ties };
+    ghost ranking = { ranking_by_price (λ x. x.number) (λ x. x.side) (λ x. x.price.units) (λ x y. C.tie x.class y.class x.number y.number) (ranking_by_class C.total (λ x. x.number) (λ x. x.class) C.tie C.ties) };
 
     ghost sides = { Prim.search rules };
 

@@ -1,5 +1,5 @@
 // The listing of a file.
-ghost use Rattle.std.specs.Prelude.{◌≡◌, IfOk, string_bytes};
+ghost use Rattle.std.specs.Prelude.{◌≡◌, IfOk, Some, string_bytes};
 ghost use Rattle.std.specs.Option.{option_map};
 ghost use Rattle.records.specs.Refusals.{on_ok};
 ghost use Rattle.orders.specs.Instructions.{says};
@@ -9,24 +9,30 @@ use crate::words::Told;
 use orders::{Instruction, OrderFault, read_instruction};
 use records::Refusal;
 use std::alloc::{AllocError, Global};
+use std::fmt::{self, Write};
 
 // The line of a record: nothing where there was none.
-fn record_line(
-    heap: Global,
+#[derive(Clone, Copy)]
+struct Line<'a> {
     index: usize,
-    found: Result<Option<Instruction<'_>>, OrderFault>,
-) -> Result<String, AllocError>
-    ensures { IfOk result (λ s. string_bytes s ≡ line_of index (on_ok (option_map says) found.entry)) }
-{
-    match found {
-        Ok(Some(instruction)) => {
-            let told = Told(instruction);
-            format!(in heap; "{index} {told}\n")
-        }
-        Ok(None) => Ok(String::new(heap)),
-        Err(fault) => {
-            let refusal = Refusal::from(fault);
-            format!(in heap; "{index} refused {refusal}\n")
+    found: Result<Option<Instruction<'a>>, OrderFault>,
+}
+
+impl fmt::Display for Line<'_> {
+    ghost output = { λ line. Some (line_of line.index (on_ok (option_map says) line.found)) };
+
+    fn fmt<W: fmt::Write>(&self, f: &mut fmt::Formatter<W>) -> fmt::Result {
+        let Line { index, found } = *self;
+        match found {
+            Ok(Some(instruction)) => {
+                let told = Told(instruction);
+                write!(f, "{index} {told}\n")
+            }
+            Ok(None) => Ok(()),
+            Err(fault) => {
+                let refusal = Refusal::from(fault);
+                write!(f, "{index} refused {refusal}\n")
+            }
         }
     }
 }
@@ -45,8 +51,9 @@ pub fn check_listing(heap: Global, input: &[u8]) -> Result<String, AllocError>
         } else {
             refused += 1;
         }
-        text.push_str(record_line(heap, index, found)?.as_str())?;
+        let line = Line { index, found };
+        write!(text, "{line}")?;
     }
-    text.push_str(format!(in heap; "{accepted} accepted, {refused} refused\n")?.as_str())?;
+    write!(text, "{accepted} accepted, {refused} refused\n")?;
     Ok(text)
 }

@@ -2,11 +2,10 @@
 ghost use Rattle.std.specs.Prelude.{◌≡◌, ◌<◌, ◌≤◌, ◌↔◌, [], length, is_ok, is_some, IsSome, if◌then◌else◌, nat_lt};
 ghost use Rattle.ordered_run.specs.Run.{first, laid, place, put_in, spot, takes, without};
 ghost use Rattle.std.specs.List.{insert, remove, slice_get};
-ghost use Rattle.ordered_run.specs.Theorems.{ReachedStaysOrdered, Sound, StepsKeepOrder, acts, reached, stepped};
+ghost use Rattle.ordered_run.specs.Theorems.{acts, stepped};
 
 use crate::ranked::Ranked;
-use std::error::Error;
-use std::fmt;
+use thiserror::Error;
 
 // One thing to do with a run: data and no closure, so that a law can be about every list of steps.
 #[derive(Clone, Copy)]
@@ -16,22 +15,13 @@ pub enum Step<T> {
 }
 
 // Why a run refuses an item: each slot is used, or else an item has its key.
-#[derive(Clone, Copy, PartialEq, Eq, Debug)]
+#[derive(Clone, Copy, PartialEq, Eq, Debug, Error)]
 pub enum PutError {
+    #[error("each slot is used")]
     Full,
+    #[error("an item has the key")]
     SameKey,
 }
-
-impl fmt::Display for PutError {
-    fn fmt<W: fmt::Write>(&self, f: &mut fmt::Formatter<W>) -> fmt::Result {
-        f.write_str(match self {
-            PutError::Full => "each slot is used",
-            PutError::SameKey => "an item has the key",
-        })
-    }
-}
-
-impl Error for PutError {}
 
 // The items are the first `used` of the slots. A count beside a slice, and no `Vec`: the caller lends the memory, and nothing is allocated.
 // The slice is a field here, as it is in a tape, and not in one type for both: inside a field's struct a caller could not prove what it holds after the drop.

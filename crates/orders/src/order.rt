@@ -18,7 +18,7 @@ pub struct Order {
     limit: Option<Price>,
     qualifier: Qualifier,
     quantity: u32,
-    // The least number of shares that must trade, so 0 where there is none: an `Option` would have two ways to say it.
+    // The least number of shares that must trade, so 0 where there is none. An `Option<NonZeroU32>` would be no plainer: each rule takes it as a number.
     minimum: u32,
     capacity: Capacity,
     ghost lot: { quantity_rule quantity ≡ true },

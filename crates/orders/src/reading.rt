@@ -12,7 +12,7 @@ use crate::order::Order;
 use prices::Price;
 use records::{Record, read_record};
 
-// What the record asks for, or the lowest refusal of the order layer that fits. No `TryFrom`: both are types of `records`.
+// What the record asks for, or the lowest refusal of the order layer that fits. No `TryFrom`: both are types of `records`, and an impl of a foreign trait for a foreign type is refused.
 fn checked<'a>(found: Record<'a>) -> Result<Instruction<'a>, OrderFault>
     ensures { on_ok says result ≡ unless (fault_in (reading_of found.entry)) (reading_of found.entry) }
 {

@@ -6,7 +6,7 @@ use Rattle.records.specs.declared.fault.RecordFault.TheVariants.{Tail}
 use Rattle.records.specs.declared.record.EntryFields.{EntryFields}
 use Rattle.records.specs.declared.record.Message.{Message}
 use Rattle.records.specs.declared.record.Message.TheVariants.{Start, Entry, Withdrawal, Opening, Halt, Resumption, Closing}
-use Rattle.records.specs.declared.record.NoOrder.{NoOrder}
+use Rattle.std.specs.declared.convert.Infallible.{Infallible}
 use Rattle.records.specs.Bytes.{closing_bytes, entry_bytes, halt_bytes, letter_alone_bytes, opening_bytes, resumption_bytes, start_bytes, withdrawal_bytes}
 use Rattle.records.specs.Layout.{misfit, account_layout}
 use Rattle.records.specs.Reading.{Reading, bytes_of, closing, entry, halt, opening, read_32, read_at, resumption, short_reading}
@@ -44,7 +44,7 @@ bytes_part input at n bytes i =
     (cases_lt i n)
 
 -- the number in a short record fits its four bytes
-abbrev pub NumbersFit : Message ℕ NoOrder (Unit {0}) → Type 0
+abbrev pub NumbersFit : Message ℕ Infallible (Unit {0}) → Type 0
 NumbersFit (Start n) = n < 2 ^ 32
 NumbersFit (Entry none account) = Unit {0}
 NumbersFit (Withdrawal n) = n < 2 ^ 32
@@ -63,7 +63,7 @@ entry_written f account b e len price quantity minimum good =
 alone_written : (letter : ℕ) (says : Reading) (b : List ℕ) → b ≡ letter_alone_bytes letter → read_32 (letter_alone_bytes letter) 0 ≡ Ok says → read_at b 0 ≡ Ok (Some says)
 alone_written letter says b e h = ap (λ x. read_at x 0) e ∙ (read_at_all (letter_alone_bytes letter) refl ∙ ap (on_ok Some) h)
 
-pub short_written : (m : Message ℕ NoOrder (Unit {0})) (b : List ℕ) → b ≡ bytes_of (short_reading m) → NumbersFit m → read_at b 0 ≡ Ok (Some (short_reading m))
+pub short_written : (m : Message ℕ Infallible (Unit {0})) (b : List ℕ) → b ≡ bytes_of (short_reading m) → NumbersFit m → read_at b 0 ≡ Ok (Some (short_reading m))
 short_written (Start n) b e h = ap (λ x. read_at x 0) e ∙ (read_at_all (start_bytes n) refl ∙ ap (on_ok Some) (start_read_again n 0 h))
 short_written (Entry none account) b e h = elim none [ ]
 short_written (Withdrawal n) b e h = ap (λ x. read_at x 0) e ∙ (read_at_all (withdrawal_bytes n) refl ∙ ap (on_ok Some) (withdrawal_read_again n 0 h))

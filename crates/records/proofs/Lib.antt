@@ -3,5 +3,4 @@ pub mod KindRows
 pub mod Numbers
 pub mod RoundTrips
 pub mod Inputs
-pub mod Laid
 pub mod Entries

@@ -7,7 +7,7 @@ use Rattle.records.specs.declared.layout.ByteRule.{ByteRule}
 use Rattle.records.specs.declared.record.Account.{Account}
 use Rattle.records.specs.declared.record.EntryFields.{EntryFields}
 use Rattle.records.specs.declared.record.Message.{Message}
-use Rattle.records.specs.declared.record.NoOrder.{NoOrder}
+use Rattle.std.specs.declared.convert.Infallible.{Infallible}
 use Rattle.records.specs.declared.record.Message.TheVariants.{Start, Entry, Withdrawal, Opening, Halt, Resumption, Closing}
 use Rattle.records.specs.Letters.{side_of, type_of, qualifier_of, capacity_of}
 use Rattle.records.specs.Refusals.{unless, on_ok}
@@ -34,7 +34,7 @@ reading_of Resumption = resumption
 reading_of Closing = closing
 
 -- what a short record says
-abbrev pub short_reading : Message ℕ NoOrder (Unit {0}) → Reading
+abbrev pub short_reading : Message ℕ Infallible (Unit {0}) → Reading
 short_reading (Start reference) = start reference
 short_reading (Entry none account) = elim none [ ]
 short_reading (Withdrawal number) = withdrawal number

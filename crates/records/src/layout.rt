@@ -82,7 +82,7 @@ impl ByteRule {
             TypeLetter => OrderType::try_from(byte).is_ok(),
             QualifierLetter => Qualifier::try_from(byte).is_ok(),
             CapacityLetter => Capacity::try_from(byte).is_ok(),
-            Printable => 0x21 <= byte && byte <= 0x7E,
+            Printable => byte.is_ascii_graphic(),
         }
     }
 }

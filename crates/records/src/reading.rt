@@ -1,6 +1,7 @@
 // Reading a record.
-ghost use Rattle.std.specs.Prelude.{◌≡◌, ◌+◌, ◌^◌, ◌<◌, None, take, drop, slice_index};
+ghost use Rattle.std.specs.Prelude.{◌≡◌, ◌+◌, ◌^◌, ◌<◌, ◌≤◌, None, take, drop, slice_index};
 ghost use Rattle.std.specs.Option.{option_map};
+ghost use Rattle.records.specs.Bytes.{number_at};
 ghost use Rattle.records.specs.Kinds.{kind_layout};
 ghost use Rattle.records.specs.Layout.{entry_layout, misfit};
 ghost use Rattle.records.specs.Refusals.{on_ok, unless};
@@ -43,6 +44,15 @@ struct Laid<'a> {
 }
 
 impl<'a> Laid<'a> {
+    // The number whose four bytes begin at `place`, high byte first.
+    fn number(self, place: usize) -> u32
+        requires { place + 4 ≤ 32 }
+        ensures { result ≡ number_at self.entry.bytes.now place }
+    {
+        let bytes = self.bytes;
+        u32::from_be_bytes(*bytes[place..].first_chunk().unwrap())
+    }
+
     // The account, where the bytes keep an entry's layout.
     fn account(self) -> Account<'a>
         requires { misfit entry_layout self.bytes.now ≡ None }
@@ -61,38 +71,15 @@ impl<'a> Laid<'a> {
         requires { misfit entry_layout self.bytes.now ≡ None }
         ensures { reading_of result ≡ entry_after (slice_index self.entry.bytes.now 1) (slice_index self.entry.bytes.now 2) (slice_index self.entry.bytes.now 3) (drop 4 self.entry.bytes.now) self.entry.at }
     {
-        let [
-            _,
-            side,
-            order_type,
-            qualifier,
-            p0,
-            p1,
-            p2,
-            p3,
-            q0,
-            q1,
-            q2,
-            q3,
-            _,
-            _,
-            _,
-            _,
-            m0,
-            m1,
-            m2,
-            m3,
-            capacity,
-            ..
-        ] = self.bytes;
+        let [_, side, order_type, qualifier, ..] = self.bytes;
         let fields = EntryFields {
             side: Side::try_from(*side).unwrap(),
             order_type: OrderType::try_from(*order_type).unwrap(),
             qualifier: Qualifier::try_from(*qualifier).unwrap(),
-            price: u32::from_be_bytes([*p0, *p1, *p2, *p3]),
-            quantity: u32::from_be_bytes([*q0, *q1, *q2, *q3]),
-            minimum: u32::from_be_bytes([*m0, *m1, *m2, *m3]),
-            capacity: Capacity::try_from(*capacity).unwrap(),
+            price: self.number(4),
+            quantity: self.number(8),
+            minimum: self.number(16),
+            capacity: Capacity::try_from(self.bytes[20]).unwrap(),
         };
         Record::Entry(fields, self.account())
     }
@@ -101,10 +88,10 @@ impl<'a> Laid<'a> {
     fn read(self) -> Result<Record<'a>, RecordFault>
         ensures { on_ok reading_of result ≡ read_32 self.entry.bytes.now self.entry.at }
     {
-        let [letter, _, _, _, n0, n1, n2, n3, ..] = self.bytes;
+        let [letter, ..] = self.bytes;
         let kind = Kind::try_from(*letter).map_err(|_| RecordFault::Kind)?;
         check(kind.layout(), self.bytes)?;
-        let number = u32::from_be_bytes([*n0, *n1, *n2, *n3]);
+        let number = self.number(4);
         Ok(match kind {
             Kind::Start => Record::Start(number),
             Kind::Entry => self.entry(),

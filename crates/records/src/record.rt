@@ -3,6 +3,7 @@ ghost use Rattle.std.specs.Prelude.{◌≡◌, None};
 ghost use Rattle.records.specs.Layout.{account_layout, misfit};
 
 use crate::letters::{Capacity, OrderType, Qualifier, Side};
+use std::convert::Infallible;
 
 // The account of an entry, whose bytes are printable: a part of the input, and where in the input it begins.
 #[derive(Clone, Copy, PartialEq, Eq, Debug)]
@@ -20,6 +21,7 @@ pub struct EntryFields {
     pub qualifier: Qualifier,
     pub price: u32,
     pub quantity: u32,
+    // 0 where there is none.
     pub minimum: u32,
     pub capacity: Capacity,
 }
@@ -40,9 +42,5 @@ pub enum Message<R, O, A> {
 
 pub type Record<'a> = Message<u32, EntryFields, Account<'a>>;
 
-// No value: the order of a record that cannot be an entry.
-#[derive(Clone, Copy)]
-pub enum NoOrder {}
-
-// A record with no account, in which nothing can be refused.
-pub type ShortRecord = Message<u32, NoOrder, ()>;
+// A record that cannot be an entry, in which nothing can be refused.
+pub type ShortRecord = Message<u32, Infallible, ()>;

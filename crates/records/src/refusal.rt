@@ -4,6 +4,7 @@ ghost use Rattle.records.specs.RefusalText.{refusal_text};
 
 use std::fmt;
 
+// What is printed, so `number` and `layer` are the numbers of the table and no enums; the byte is 0 where none is at fault, as it is printed.
 #[derive(Clone, Copy, PartialEq, Eq, Debug)]
 pub struct Refusal {
     pub number: u8,

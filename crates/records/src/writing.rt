@@ -47,41 +47,9 @@ pub fn write_entry(
 fn one_number(kind: Kind, n: u32) -> [u8; 32]
     ensures { result ≡ one_number_bytes (kind_letter kind) n }
 {
-    let [n0, n1, n2, n3] = n.to_be_bytes();
-    [
-        kind.into(),
-        0,
-        0,
-        0,
-        n0,
-        n1,
-        n2,
-        n3,
-        0,
-        0,
-        0,
-        0,
-        0,
-        0,
-        0,
-        0,
-        0,
-        0,
-        0,
-        0,
-        0,
-        0,
-        0,
-        0,
-        0,
-        0,
-        0,
-        0,
-        0,
-        0,
-        0,
-        0,
-    ]
+    let mut bytes = letter_alone(kind);
+    bytes[4..8].copy_from_slice(&n.to_be_bytes());
+    bytes
 }
 
 fn letter_alone(kind: Kind) -> [u8; 32]
@@ -99,7 +67,6 @@ pub fn write_short(short: ShortRecord, out: &mut [u8; 32])
 {
     *out = match short {
         ShortRecord::Start(reference) => one_number(Kind::Start, reference),
-        ShortRecord::Entry(order, _) => match order {},
         ShortRecord::Withdrawal(number) => one_number(Kind::Withdrawal, number),
         ShortRecord::Opening => letter_alone(Kind::Opening),
         ShortRecord::Halt => letter_alone(Kind::Halt),

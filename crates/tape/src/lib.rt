@@ -5,23 +5,15 @@ ghost use Rattle.std.specs.Prelude.{◌≡◌, ◌≤◌, [], ◌∷◌, ◌++�
 ghost use Rattle.ordered_run.specs.Run.{laid};
 
 use rules::Trade;
-use std::error::Error;
-use std::fmt;
+use thiserror::Error;
 
 #[cfg(test)]
 mod tests;
 
 // Each place is used.
-#[derive(Clone, Copy, PartialEq, Eq, Debug)]
+#[derive(Clone, Copy, PartialEq, Eq, Debug, Error)]
+#[error("each place is used")]
 pub struct Full;
-
-impl fmt::Display for Full {
-    fn fmt<W: fmt::Write>(&self, f: &mut fmt::Formatter<W>) -> fmt::Result {
-        f.write_str("each place is used")
-    }
-}
-
-impl Error for Full {}
 
 // The trades are in the first `used` of the places. A count beside a slice, and no `Vec`: the caller lends the memory, and nothing is allocated.
 // The slice is a field here, as it is in a run, and not in one type for both: inside a field's struct a caller could not prove what it holds after the drop.

@@ -19,17 +19,8 @@ fn trades_stand_in_their_order(rt: HostRuntime) -> Result<(), Fail> {
     tape.write(trade(7, 8, 1_000, 300)?)?;
     tape.write(trade(7, 9, 1_005, 200)?)?;
     assert_eq!(rt; tape.free(), 1);
-    let [first, second] = tape.trades() else {
-        return Err(Fail::new("not two trades"));
-    };
-    assert_eq!(rt;
-        (first.seller, first.price.units(), first.quantity),
-        (8, 1_000, 300)
-    );
-    assert_eq!(rt;
-        (second.seller, second.price.units(), second.quantity),
-        (9, 1_005, 200)
-    );
+    let wanted = [trade(7, 8, 1_000, 300)?, trade(7, 9, 1_005, 200)?];
+    assert_eq!(rt; tape.trades(), wanted.as_slice());
     Ok(())
 }
 

@@ -2,9 +2,8 @@
 ghost use Rattle.std.specs.Prelude.{◌≡◌, if◌then◌else◌, Some, None, Ok, Err};
 ghost use Rattle.std.specs.Option.{option_map};
 ghost use Rattle.records.specs.Refusals.{on_ok, unless};
-ghost use Rattle.prices.specs.Rule.{lawful_price};
 ghost use Rattle.orders.specs.Rules.{minimum_rule, mix_rule, price_rule, quantity_rule, type_by};
-ghost use Rattle.orders.specs.Orders.{fields_of, limit_fields, price_of};
+ghost use Rattle.orders.specs.Orders.{fields_of, limit_fields};
 ghost use Rattle.orders.specs.Checks.{order_fault};
 
 use crate::fault::OrderFault;
@@ -26,13 +25,13 @@ fn checked_limit(order_type: OrderType, units: u32) -> Result<Option<Price>, Ord
 fn keeps_quantity_rule(quantity: u32) -> bool
     ensures { result ≡ quantity_rule quantity }
 {
-    100 <= quantity && quantity <= 1_000_000 && quantity % 100 == 0
+    (100..=1_000_000).contains(&quantity) && quantity.is_multiple_of(100)
 }
 
 fn keeps_minimum_rule(quantity: u32, minimum: u32) -> bool
     ensures { result ≡ minimum_rule quantity minimum }
 {
-    minimum <= quantity && minimum % 100 == 0
+    minimum <= quantity && minimum.is_multiple_of(100)
 }
 
 fn keeps_mix_rule(order_type: OrderType, qualifier: Qualifier, minimum: u32) -> bool
@@ -97,6 +96,7 @@ impl From<Order> for EntryFields {
     }
 }
 
+// `side`, `quantity` and `capacity` stand at the plain order too: one trait for both would have a law for each and be no plainer.
 impl Order {
     pub fn side(self) -> Side
         ensures { result ≡ self.side }
@@ -132,7 +132,7 @@ impl Order {
         self.quantity
     }
 
-    // The minimum fill; 0 where there is none.
+    // The minimum fill; 0 where there is none, as in the order itself.
     pub fn minimum(self) -> u32
         ensures { result ≡ self.minimum }
     {

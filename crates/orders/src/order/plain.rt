@@ -1,4 +1,4 @@
-// The plain order: a limit order with no qualifier and no minimum, as a type apart, since its price is no `Option`.
+// The plain order: a limit order with no qualifier and no minimum. A type apart: around an `Order` its price would be an `Option`, to unwrap at each use.
 ghost use Rattle.std.specs.Prelude.{◌≡◌, true};
 ghost use Rattle.orders.specs.Rules.{quantity_rule};
 

@@ -1,5 +1,5 @@
 // An order as text.
-ghost use Rattle.std.specs.Prelude.{Some, IsOk, ◌≡◌};
+ghost use Rattle.std.specs.Prelude.{Some, ◌≡◌};
 ghost use Rattle.orders.specs.Orders.{fields_of, units_or_zero};
 ghost use Rattle.orders.specs.Rules.{type_by};
 ghost use Rattle.orders.specs.Words.{marks_text, order_text, price_or_market, qualifier_part};
@@ -45,11 +45,11 @@ impl fmt::Display for Marks {
     ghost output = { λ marks. Some (marks_text marks.qualifier marks.minimum) };
 
     fn fmt<W: fmt::Write>(&self, f: &mut fmt::Formatter<W>) -> fmt::Result {
-        let qualifier = qualifier_part(self.qualifier);
-        if self.minimum == 0 {
+        let Marks { qualifier, minimum } = *self;
+        let qualifier = qualifier_part(qualifier);
+        if minimum == 0 {
             return f.write_str(qualifier);
         }
-        let minimum = self.minimum;
         write!(f, "{qualifier}, minimum {minimum}")
     }
 }
@@ -59,14 +59,16 @@ impl fmt::Display for Order {
     ghost output = { λ order. Some (order_text (fields_of order)) };
 
     fn fmt<W: fmt::Write>(&self, f: &mut fmt::Formatter<W>) -> fmt::Result {
-        let side = self.side;
-        let quantity = self.quantity;
-        let limit = LimitOrMarket(self.limit);
-        let marks = Marks {
-            qualifier: self.qualifier,
-            minimum: self.minimum,
-        };
-        let capacity = self.capacity;
+        let Order {
+            side,
+            limit,
+            qualifier,
+            quantity,
+            minimum,
+            capacity,
+        } = *self;
+        let limit = LimitOrMarket(limit);
+        let marks = Marks { qualifier, minimum };
         write!(f, "{side} {quantity} at {limit}{marks}, {capacity}")
     }
 }

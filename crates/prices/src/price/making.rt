@@ -11,7 +11,7 @@ fn is_lawful(rows: &[StepRow], units: u32) -> bool
     ensures { result ≡ lawful_by rows.now units }
 {
     let step = step_at(rows, units);
-    1 <= units && units <= 10_000_000 && 0 < step && units % step == 0
+    (1..=10_000_000).contains(&units) && 0 < step && units.is_multiple_of(step)
 }
 
 // The price of so many units of 0.0001, if the rule has one there.
