@@ -10,7 +10,9 @@ use Rattle.std.specs.Cmp.Rules.{comparing}
 use Rattle.ordered_run.specs.Ranking.{Ranking}
 use Rattle.records.specs.declared.letters.Side.{Side}
 use Rattle.records.specs.declared.letters.Side.TheVariants.{Buy, Sell}
-use Rattle.lines.specs.Rank.{lower_before, rank_before}
+use Rattle.records.specs.declared.letters.Capacity.{Capacity}
+use Rattle.records.specs.declared.letters.Capacity.TheVariants.{Investor, Dealer}
+use Rattle.lines.specs.Rank.{capacity_tie, lower_before, rank_before}
 
 lower_self : (p : ℕ) (t : Bool) → t ≡ false → lower_before p p t ≡ false
 lower_self p t e = grind (arith, common_steps)
@@ -69,3 +71,17 @@ module _ {X C : Type 0} {cmp : C → C → Ordering} (o : IsTotalOrder cmp) (num
 
   pub ranking_by_class : Ranking number tie_of
   ranking_by_class = subst (Ranking number) (λ i x y. tie_by_order x y i) (ranking_by_order number {R = order} (Prim.search (comparing, rules)) (λ x y e. Prim.search rules))
+
+-- the tie of the capacity kind is one, whatever is ranked
+abbrev place : Capacity → ℕ
+place Investor = 0
+place Dealer = 1
+
+capacity_ties : (c d : Capacity) (m n : ℕ) → is_lt (ordering_then (nat_cmp (place c) (place d)) (nat_cmp m n)) ≡ capacity_tie c d m n
+capacity_ties Investor Investor m n = Prim.search rules
+capacity_ties Investor Dealer m n = refl
+capacity_ties Dealer Investor m n = refl
+capacity_ties Dealer Dealer m n = Prim.search rules
+
+pub ranking_by_capacity : {X : Type 0} (number : X → ℕ) (capacity : X → Capacity) → Ranking number (λ x y. capacity_tie (capacity x) (capacity y) (number x) (number y))
+ranking_by_capacity number capacity = ranking_by_class {cmp = on place nat_cmp} (Prim.search (comparing, rules)) number capacity capacity_tie capacity_ties

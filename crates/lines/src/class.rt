@@ -22,10 +22,11 @@ pub trait Class: Ord + Copy {
     ghost ties: { (c d : Self) (m n : ℕ) → is_lt (ordering_then (Self.cmp c d) (nat_cmp m n)) ≡ tie c d m n };
 }
 
-// Whatever is ranked, the tie of a class is a ranking by number.
-#[tactic(auto, using(crate::specs::Ranks::ranking_by_class))]
+// Whatever is ranked, the tie of a class is a ranking by number, and so is that of the capacities.
+#[tactic(auto, using(crate::specs::Ranks::ranking_by_capacity))]
 pub fn ties_are_rankings<C: Class, X>()
-    ensures { (number : X → ℕ) (class : X → C) → Ranking number (λ x y. C.tie (class x) (class y) (number x) (number y)) }
+    ensures class { (number : X → ℕ) (class : X → C) → Ranking number (λ x y. C.tie (class x) (class y) (number x) (number y)) }
+    ensures capacity { (number : X → ℕ) (capacity : X → Capacity) → Ranking number (λ x y. capacity_tie (capacity x) (capacity y) (number x) (number y)) }
 {}
 
 // The one class of all orders.

@@ -13,22 +13,24 @@ use std::fmt::{self, Write};
 
 // The line of a record: nothing where there was none.
 #[derive(Clone, Copy)]
-struct Line<'a> {
+struct Line {
     index: usize,
-    found: Result<Option<Instruction<'a>>, OrderFault>,
+    found: Result<Option<Instruction>, OrderFault>,
 }
 
-impl fmt::Display for Line<'_> {
+impl fmt::Display for Line {
     ghost output = { λ line. Some (line_of line.index (on_ok (option_map says) line.found)) };
 
     fn fmt<W: fmt::Write>(&self, f: &mut fmt::Formatter<W>) -> fmt::Result {
         let Line { index, found } = *self;
         match found {
-            Ok(Some(instruction)) => {
+            Ok(found) => {
+                let Some(instruction) = found else {
+                    return Ok(());
+                };
                 let told = Told(instruction);
                 write!(f, "{index} {told}\n")
             }
-            Ok(None) => Ok(()),
             Err(fault) => {
                 let refusal = Refusal::from(fault);
                 write!(f, "{index} refused {refusal}\n")

@@ -7,9 +7,9 @@ use orders::Instruction;
 use std::fmt;
 
 #[derive(Clone, Copy)]
-pub(crate) struct Told<'a>(pub(crate) Instruction<'a>);
+pub(crate) struct Told(pub(crate) Instruction);
 
-impl fmt::Display for Told<'_> {
+impl fmt::Display for Told {
     ghost output = { λ told. Some (reading_text (says told.0)) };
 
     fn fmt<W: fmt::Write>(&self, f: &mut fmt::Formatter<W>) -> fmt::Result {

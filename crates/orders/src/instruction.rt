@@ -1,6 +1,7 @@
 // A record whose order or reference keeps the rules.
 use crate::order::Order;
 use prices::Price;
-use records::{Account, Message};
+use records::{KeptAccount, Message};
 
-pub type Instruction<'a> = Message<Price, Order, Account<'a>>;
+// It holds its account by value, so it may be kept when the input is gone.
+pub type Instruction = Message<Price, Order, KeptAccount>;

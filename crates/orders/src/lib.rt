@@ -13,4 +13,6 @@ pub use fault::OrderFault;
 pub use instruction::Instruction;
 pub use order::{NotPlain, Order, PlainOrder};
 pub use reading::read_instruction;
+// The variants of an instruction are imported through it.
+pub use records::Message;
 pub use writing::{write_order, write_reference};

@@ -13,12 +13,15 @@ use prices::Price;
 use records::{Record, read_record};
 
 // What the record asks for, or the lowest refusal of the order layer that fits. No `TryFrom`: both are types of `records`, and an impl of a foreign trait for a foreign type is refused.
-fn checked<'a>(found: Record<'a>) -> Result<Instruction<'a>, OrderFault>
+fn checked(found: Record<'_>) -> Result<Instruction, OrderFault>
     ensures { on_ok says result ≡ unless (fault_in (reading_of found.entry)) (reading_of found.entry) }
 {
     Ok(match found {
         Record::Start(reference) => Instruction::Start(Price::try_from(reference)?),
-        Record::Entry(fields, account) => Instruction::Entry(Order::try_from(fields)?, account),
+        Record::Entry(fields, account) => Instruction::Entry(
+            Order::try_from(fields)?,
+            account.into(),
+        ),
         Record::Withdrawal(number) => Instruction::Withdrawal(number),
         Record::Opening => Instruction::Opening,
         Record::Halt => Instruction::Halt,
@@ -28,10 +31,7 @@ fn checked<'a>(found: Record<'a>) -> Result<Instruction<'a>, OrderFault>
 }
 
 // The instruction in the record that begins at `at` in the input; none where the input ends there.
-pub fn read_instruction<'a>(
-    input: &'a [u8],
-    at: usize,
-) -> Result<Option<Instruction<'a>>, OrderFault>
+pub fn read_instruction(input: &[u8], at: usize) -> Result<Option<Instruction>, OrderFault>
     ensures is { on_ok (option_map says) result ≡ check_at input.now at }
     ensures written { Accepted (on_ok (option_map says) result) (λ reading. bytes_of reading ≡ take 32 (drop at input.now)) }
     ensures account { Accepted (on_ok (option_map says) result) (AccountIn input.now) }

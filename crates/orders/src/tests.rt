@@ -1,5 +1,7 @@
 use crate::*;
-use records::{Capacity, EntryFields, OrderType, Qualifier, Refusal, Side};
+use records::{
+    Capacity, EntryFields, OrderType, Qualifier, Refusal, ShortRecord, Side, write_short,
+};
 
 fn fields(
     order_type: OrderType,
@@ -137,4 +139,31 @@ fn orders_are_written_byte_by_byte(rt: HostRuntime) {
             == *b"ESLN\x00\x98\x96\x80\x00\x0F\x42\x40\x00\x00\x00\x00\x00\x00\x00\x64D\x00\x00\x00!~!~!~!~"
     );
     assert!(rt; record_of(limit, b"ACCOUNT ") == [0; 32]);
+}
+
+// The instruction in the buffer, once the buffer has the record of a halt.
+fn read_and_overwritten(buffer: &mut [u8; 32]) -> Option<Instruction> {
+    let found = read_instruction(&*buffer, 0);
+    write_short(ShortRecord::Halt, buffer);
+    found.ok()?
+}
+
+// The account that an entry keeps, and its place.
+fn kept_account(found: Option<Instruction>) -> Option<([u8; 8], usize)> {
+    let Instruction::Entry(_, account) = found? else {
+        return None;
+    };
+    let bytes = account.bytes;
+    Some((bytes, account.place))
+}
+
+// An instruction is kept while its buffer takes the next record.
+#[test]
+fn an_instruction_outlives_its_input(rt: HostRuntime) {
+    let market = fields(OrderType::Market, Qualifier::ImmediateOrCancel, 0, 300, 0);
+    let mut buffer = record_of(market, b"ACCOUNT2");
+    let kept = kept_account(read_and_overwritten(&mut buffer));
+    assert_eq!(rt; kept, Some((*b"ACCOUNT2", 24)));
+    let next = read_and_overwritten(&mut buffer);
+    assert_eq!(rt; next, Some(Instruction::Halt));
 }

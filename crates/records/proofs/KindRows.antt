@@ -40,7 +40,7 @@ pub by_kind : (kind : Kind) (b : List ℕ) (at : ℕ) → get_or b 0 0 ≡ kind_
 by_kind kind b at e = by_letter (kind_letter kind) b at e ∙ row_of_kind kind b at
 
 -- a letter that differs from that of every row
-abbrev Unlisted : ℕ → List KindRow → Type 0
+abbrev pub Unlisted : ℕ → List KindRow → Type 0
 Unlisted letter [] = Unit {0}
 Unlisted letter (kind ∷ kinds) = (letter ≡ kind.letter → ⊥) × Unlisted letter kinds
 

@@ -15,6 +15,6 @@ mod writing;
 pub use fault::RecordFault;
 pub use letters::{Capacity, Kind, NoLetter, OrderType, Qualifier, Side};
 pub use reading::read_record;
-pub use record::{Account, EntryFields, Message, Record, ShortRecord};
+pub use record::{Account, EntryFields, KeptAccount, Message, Record, ShortRecord};
 pub use refusal::Refusal;
 pub use writing::{write_entry, write_short};

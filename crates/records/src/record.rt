@@ -13,6 +13,26 @@ pub struct Account<'a> {
     ghost printable: { misfit account_layout bytes.now ≡ None },
 }
 
+// The same by value, for what is kept when the input is gone.
+#[derive(Clone, Copy, PartialEq, Eq, Debug)]
+pub struct KeptAccount {
+    pub bytes: [u8; 8],
+    pub place: usize,
+    ghost printable: { misfit account_layout bytes ≡ None },
+}
+
+impl From<Account<'_>> for KeptAccount {
+    ghost from_gives = { λ account r. (r.bytes ≡ account.bytes.now) × (r.place ≡ account.place) };
+
+    fn from(account: Account<'_>) -> KeptAccount {
+        let Account { bytes, place } = account;
+        KeptAccount {
+            bytes: *bytes,
+            place,
+        }
+    }
+}
+
 // An entry's fields as they stand in the record; whether they make an order is not looked at.
 #[derive(Clone, Copy, PartialEq, Eq, Debug)]
 pub struct EntryFields {

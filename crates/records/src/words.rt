@@ -3,7 +3,7 @@ ghost use Rattle.std.specs.Prelude.{Some};
 ghost use Rattle.records.specs.Words.{capacity_word, side_word};
 
 use crate::letters::{Capacity, Side};
-use crate::record::Account;
+use crate::record::{Account, KeptAccount};
 use std::{fmt, str};
 
 impl fmt::Display for Side {
@@ -34,5 +34,18 @@ impl fmt::Display for Account<'_> {
     fn fmt<W: fmt::Write>(&self, f: &mut fmt::Formatter<W>) -> fmt::Result {
         let bytes = self.bytes;
         f.write_str(str::from_utf8(bytes).unwrap())
+    }
+}
+
+impl fmt::Display for KeptAccount {
+    ghost output = { λ account. Some account.bytes };
+
+    fn fmt<W: fmt::Write>(&self, f: &mut fmt::Formatter<W>) -> fmt::Result {
+        let KeptAccount { bytes, place } = self;
+        let lent = Account {
+            bytes,
+            place: *place,
+        };
+        write!(f, "{lent}")
     }
 }
