@@ -24,6 +24,7 @@ impl fmt::Display for Line {
     fn fmt<W: fmt::Write>(&self, f: &mut fmt::Formatter<W>) -> fmt::Result {
         let Line { index, found } = *self;
         match found {
+            // In two steps: the borrow checker does not cover a pattern that reaches an order through both.
             Ok(found) => {
                 let Some(instruction) = found else {
                     return Ok(());
